@@ -1,0 +1,3 @@
+pub mod ContextLaws
+pub mod WakerLaws
+pub mod WakersLaws

@@ -1,0 +1,3 @@
+pub mod PositionLaws
+pub mod ArrayLaws
+pub mod ZeroLaws

@@ -1,0 +1,109 @@
+//! Making an array or a rendezvous.
+ghost use mathlib.Core.Path.{_≡_};
+ghost use Prim.Native.Nat.{_≤_};
+ghost use Rattle.channel.specs.Position.{slots};
+ghost use Rattle.schedule.specs.Record.{refusedWith};
+ghost use Rattle.schedule.specs.Making.{zeroRecord, freshArrayRecord, freshZeroRecord, madeFor, madeArray, madeZero};
+use crate::record::Flavour;
+use crate::record::Place;
+use crate::record::Record;
+use crate::record::Replied;
+use crate::record::ThreadRecord;
+use crate::refusal::Refusal;
+use crate::refusal::Reply;
+use channel::answer::Tick;
+use channel::array::Array;
+use channel::position::SLOTS;
+use channel::position::Shape;
+use channel::zero::Zero;
+use waker::context::THREADS;
+
+impl Record {
+    /// A rendezvous record of this many threads, all 0 but for that count.
+    fn fresh_zero(count: u32) -> Record
+        ensures { λ r. ⌜ r ≡ freshZeroRecord count ⌝ }
+    {
+        let idle = ThreadRecord { place: Place::Idle };
+        let array = Array::new(0);
+        let zero = Zero::new();
+        let shape = Shape {
+            capacity: 0,
+            mark: 0,
+            lap: 0,
+        };
+        Record {
+            array,
+            zero,
+            threads: [idle; THREADS],
+            shape,
+            clock: Tick(0),
+            steps: 0,
+            count,
+            flavour: Flavour::Zero,
+        }
+    }
+
+    /// An array record of this capacity, slot i with stamp i.
+    fn fresh_array(capacity: u64, count: u32) -> Record
+        requires { ⌜ capacity ≤ slots ⌝ }
+        ensures { λ r. ⌜ r ≡ freshArrayRecord capacity count ⌝ }
+    {
+        let idle = ThreadRecord { place: Place::Idle };
+        let array = Array::new(capacity);
+        let zero = Zero::new();
+        let shape = Shape::new(capacity);
+        Record {
+            array,
+            zero,
+            threads: [idle; THREADS],
+            shape,
+            clock: Tick(0),
+            steps: 0,
+            count,
+            flavour: Flavour::Array,
+        }
+    }
+
+    /// A refused making: the all-0 rendezvous record, out of form.
+    fn unmade(refusal: Refusal) -> Replied
+        ensures { λ r. ⌜ r ≡ refusedWith zeroRecord refusal ⌝ }
+    {
+        Record::fresh_zero(0).refused(refusal)
+    }
+
+    /// The record, where its thread count is one that a record may have.
+    fn made_for(self, count: u32) -> Replied
+        ensures { λ r. ⌜ r ≡ madeFor count self ⌝ }
+    {
+        if count == 0 {
+            return Record::unmade(Refusal::ThreadCount);
+        }
+        if (THREADS as u32) < count {
+            return Record::unmade(Refusal::ThreadCount);
+        }
+        Replied {
+            next: self,
+            reply: Reply::Done,
+        }
+    }
+
+    /// Makes an array of a capacity, for a number of threads.
+    pub fn make_array(capacity: u64, count: u32) -> Replied
+        ensures { λ r. ⌜ r ≡ madeArray capacity count ⌝ }
+    {
+        if capacity == 0 {
+            return Record::unmade(Refusal::Capacity);
+        }
+        if (SLOTS as u64) < capacity {
+            return Record::unmade(Refusal::Capacity);
+        }
+        Record::fresh_array(capacity, count).made_for(count)
+    }
+
+    /// Makes a rendezvous for a number of threads.
+    pub fn make_zero(count: u32) -> Replied
+        ensures { λ r. ⌜ r ≡ madeZero count ⌝ }
+    {
+        Record::fresh_zero(count).made_for(count)
+    }
+}

@@ -1,0 +1,116 @@
+-- Every public call keeps what is kept of an array's record.
+use Prim.Native.Nat.{ℕ, _+_, _*_, _<_}
+use mathlib.Core.Path.{_≡_, refl}
+use native.Mathlib.Omega.{arith}
+use Rattle.waker.specs.Context.{threads}
+use Rattle.channel.specs.Position.{at}
+use Rattle.channel.specs.ArrayBounds.{Fits}
+use Rattle.channel.specs.Array.{outcomeOf, arrayStep}
+use Rattle.channel.specs.declared.answer.Tick.{Tick}
+use Rattle.channel.specs.declared.position.Shape.{Shape}
+use Rattle.channel.specs.declared.array.call.ArrayCall.{ArrayCall}
+use Rattle.channel.proofs.PositionLaws.{sized}
+use Rattle.schedule.specs.Record.{threadAt, placeOf, placeAfterArray, withThread, afterArray}
+use Rattle.schedule.specs.Begin.{codeOf, unlimited, startedArray}
+use Rattle.schedule.specs.Form.{stepLimit}
+use Rattle.schedule.specs.declared.begin.Code.{Code}
+use Rattle.schedule.specs.declared.begin.Code.the-variants.{Unknown, TrySend, TryReceive, Send, Receive, Len, IsEmpty, IsFull, IsDisconnected, Disconnect}
+use Rattle.schedule.specs.declared.begin.Start.the-variants.{At}
+use Rattle.schedule.specs.declared.record.Place.{Place}
+use Rattle.schedule.specs.declared.record.Place.the-variants.{Idle, Array}
+use Rattle.schedule.specs.declared.record.ThreadRecord.{ThreadRecord}
+use Rattle.schedule.specs.declared.record.Record.{Record}
+use Rattle.grown.proofs.Lists.{at-set}
+use Rattle.grown.proofs.Acts.{Moves}
+use Rattle.grown.proofs.Starts.{begun-at, never}
+use Rattle.grown.proofs.Bounds.{still-idle, same-bounds, later-bounds, stepped-bounds}
+use Rattle.grown.proofs.ArrayKept.{PlaceSaved, reach, KeptArray}
+use Rattle.grown.proofs.ArrayStep.{place-later, Good, step-good}
+
+-- The first place of a call has saved nothing.
+module _ (S : Shape) (B m : ℕ) (d : Tick) (p : Place) where
+  begins : (q : Place) → PlaceSaved S B q → unlimited d q ≡ At p → PlaceSaved S B p
+  begins q h e = rw (begun-at d q p e) at h
+
+  first-place : (c : Code) → startedArray c m d ≡ At p → PlaceSaved S B p
+  first-place Unknown e = absurd (never p e)
+  first-place TrySend e = begins _ tt e
+  first-place TryReceive e = begins _ tt e
+  first-place Send e = absurd (never p e)
+  first-place Receive e = absurd (never p e)
+  first-place Len e = begins _ tt e
+  first-place IsEmpty e = begins _ tt e
+  first-place IsFull e = begins _ tt e
+  first-place IsDisconnected e = begins _ tt e
+  first-place Disconnect e = begins _ tt e
+
+-- A step's reach is a lap more.
+more : (n l : ℕ) → (n + 1) * l ≡ n * l + l
+more n l = omega arith
+
+module _ (r : Record) (k : KeptArray r) where
+  F : Fits (r .shape)
+  F = rw (k .shape) (sized (k .capacity) (k .some) (k .most) .shaped)
+
+  moved : (t : ℕ) (p : Place) → t < r .count → PlaceSaved (r .shape) (reach r) p → KeptArray (withThread r t p)
+  moved t p l h =
+      record {
+        capacity = k .capacity;
+        some = k .some;
+        most = k .most;
+        shape = k .shape;
+        flavour = k .flavour;
+        zero = k .zero;
+        bounds = same-bounds {r = r} refl refl refl (k .bounds);
+        memory = k .memory;
+        places = λ u.
+            at-set (λ (x : ThreadRecord). PlaceSaved (r .shape) (reach r) (x .place)) (r .threads) t u (threadAt p)
+            (threadAt Idle) (λ e. h) (k .places u);
+        beyond = still-idle r t _ l (k .beyond);
+      }
+
+  stepped : (t : ℕ) (c : ArrayCall) → t < r .count → r .steps < stepLimit → placeOf r t ≡ Array c →
+      KeptArray (afterArray r t (arrayStep (r .shape) (r .array) c))
+  stepped t c l few e =
+      record {
+        capacity = k .capacity;
+        some = k .some;
+        most = k .most;
+        shape = k .shape;
+        flavour = k .flavour;
+        zero = k .zero;
+        bounds = stepped-bounds {r = r} refl refl refl few (k .bounds);
+        memory = rw (more (r .steps) (r .shape .lap)) (good .memory);
+        places = λ u.
+            rw (more (r .steps) (r .shape .lap))
+            (at-set (λ (x : ThreadRecord). PlaceSaved (r .shape) (reach r + r .shape .lap) (x .place)) (r .threads) t u
+            (threadAt (placeAfterArray (outcomeOf (r .shape) (r .array) c .next))) (threadAt Idle)
+            (λ e. good .place) (place-later (r .shape) F (reach r) (placeOf r u) (k .places u)));
+        beyond = still-idle r t _ l (k .beyond);
+      }
+    where
+      good : Good (r .shape) F (reach r) (r .array) (k .memory) (outcomeOf (r .shape) (r .array) c)
+      good = step-good (r .shape) F (reach r) (r .array) (k .memory) c (rw e at (k .places t))
+
+  pub array-moves : Moves KeptArray r
+  array-moves =
+      record {
+        begin = λ t c m d p l e s.
+            moved t p l (first-place (r .shape) (reach r) m d p (codeOf c) (rw (k .flavour) at s));
+        array = stepped;
+        zero = λ t c l few e. absurd (rw e at (k .places (t .0)));
+        advance = λ n l.
+            record {
+              capacity = k .capacity;
+              some = k .some;
+              most = k .most;
+              shape = k .shape;
+              flavour = k .flavour;
+              zero = k .zero;
+              bounds = later-bounds n l (k .bounds);
+              memory = k .memory;
+              places = k .places;
+              beyond = k .beyond;
+            };
+        take = λ t a l e. moved t Idle l tt;
+      }

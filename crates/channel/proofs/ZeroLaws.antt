@@ -16,7 +16,7 @@ use Rattle.waker.specs.declared.wakers.Side.the-variants.{Sender, Receiver}
 use Rattle.waker.specs.declared.wakers.Wakers.{Wakers}
 use Rattle.waker.proofs.WakerLaws.{found-known}
 use Rattle.channel.specs.ZeroSteps.{sideOf, messageOf, aloneStep, firstStep, waitStep, askStep, callStep}
-use Rattle.channel.specs.Zero.{packet, noPacket, packetAt, withWakers, withPacket, flagged, keptAtLeave, packetFor, foundBy, sightOf, outcomeOf, applied, zeroStep}
+use Rattle.channel.specs.Zero.{packet, noPacket, packetAt, withWakers, withPacket, flagged, packetFor, foundBy, sightOf, outcomeOf, applied, zeroStep, withMessage, withReady, withLeave, joinedBy}
 use Rattle.channel.specs.ZeroBounds.{Bounded, Names, Touches, Reaches}
 use Rattle.channel.specs.declared.answer.Tick.{Tick}
 use Rattle.channel.specs.declared.zero.call.Offer.{Offer}
@@ -70,32 +70,29 @@ module _ (z : Zero) (t : Thread) where
       w ≡ picked (z .wakers) σ v → next ≡ withWakers z w → next ≡ applied z t e
   pick-applied p q r = r ∙ rw (p, q)
 
-  pub join-applied : {e : ZeroEffect} {o : Offer} {σ : Side} {m : ℕ} {w : Wakers} {joined next : Zero} →
-      e ≡ effect.Join o → m ≡ messageOf o → σ ≡ sideOf o → w ≡ registered (z .wakers) σ t → joined ≡ withWakers z w →
-      next ≡ withPacket joined t (packet m false) → next ≡ applied z t e
-  join-applied p m σ w j n = n ∙ rw (p, j, w, σ, m)
+  pub join-applied : {e : ZeroEffect} {o : Offer} {next : Zero} → e ≡ effect.Join o → next ≡ joinedBy z t o →
+      next ≡ applied z t e
+  join-applied p n = n ∙ rw p
 
-  pub put-applied : {e : ZeroEffect} {v : Thread} {m : ℕ} {old : Packet} {next : Zero} → e ≡ effect.PutMessage v m →
-      old ≡ packetAt z v → next ≡ withPacket z v (packet m (old .ready)) → next ≡ applied z t e
-  put-applied p q r = r ∙ rw (p, q)
+  pub put-applied : {e : ZeroEffect} {v : Thread} {m : ℕ} {next : Zero} → e ≡ effect.PutMessage v m →
+      next ≡ withMessage z v m → next ≡ applied z t e
+  put-applied p n = n ∙ rw p
 
-  pub take-applied : {e : ZeroEffect} {v : Thread} {old : Packet} {next : Zero} → e ≡ effect.TakeMessage v →
-      old ≡ packetAt z v → next ≡ withPacket z v (packet 0 (old .ready)) → next ≡ applied z t e
-  take-applied p q r = r ∙ rw (p, q)
+  pub take-applied : {e : ZeroEffect} {v : Thread} {next : Zero} → e ≡ effect.TakeMessage v → next ≡ withMessage z v 0 →
+      next ≡ applied z t e
+  take-applied p n = n ∙ rw p
 
-  pub ready-applied : {e : ZeroEffect} {v : Thread} {old : Packet} {next : Zero} → e ≡ effect.SetReady v →
-      old ≡ packetAt z v → next ≡ withPacket z v (packet (old .message) true) → next ≡ applied z t e
-  ready-applied p q r = r ∙ rw (p, q)
+  pub ready-applied : {e : ZeroEffect} {v : Thread} {next : Zero} → e ≡ effect.SetReady v → next ≡ withReady z v →
+      next ≡ applied z t e
+  ready-applied p n = n ∙ rw p
 
-  pub abort-applied : {e : ZeroEffect} {σ : Side} {old kept : Packet} {w : Wakers} {turned next : Zero} →
-      e ≡ effect.Abort σ → old ≡ packetAt z t → kept ≡ keptAtLeave σ old →
-      w ≡ selected (z .wakers) t word.Aborted → turned ≡ withWakers z w →
-      next ≡ withPacket turned t kept → next ≡ applied z t e
-  abort-applied p o k w u n = n ∙ rw (p, u, w, k, o)
+  pub abort-applied : {e : ZeroEffect} {σ : Side} {w : Wakers} {turned next : Zero} → e ≡ effect.Abort σ →
+      w ≡ selected (z .wakers) t word.Aborted → turned ≡ withWakers z w → next ≡ withLeave turned σ t → next ≡ applied z t e
+  abort-applied p w u n = n ∙ rw (p, u, w)
 
-  pub give-up-applied : {e : ZeroEffect} {σ : Side} {old kept : Packet} {next : Zero} → e ≡ effect.GiveUp σ →
-      old ≡ packetAt z t → kept ≡ keptAtLeave σ old → next ≡ withPacket z t kept → next ≡ applied z t e
-  give-up-applied p o k n = n ∙ rw (p, k, o)
+  pub give-up-applied : {e : ZeroEffect} {σ : Side} {next : Zero} → e ≡ effect.GiveUp σ → next ≡ withLeave z σ t →
+      next ≡ applied z t e
+  give-up-applied p n = n ∙ rw p
 
   pub leave-applied : {e : ZeroEffect} {σ : Side} {w : Wakers} {gone next : Zero} → e ≡ effect.Leave σ →
       w ≡ unregistered (z .wakers) σ t → gone ≡ withWakers z w → next ≡ withPacket gone t noPacket → next ≡ applied z t e

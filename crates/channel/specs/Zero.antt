@@ -14,6 +14,7 @@ use Rattle.waker.specs.declared.wakers.Side.the-variants.{Sender, Receiver}
 use Rattle.waker.specs.declared.wakers.Wakers.{Wakers}
 use Rattle.channel.specs.ZeroSteps.{sideOf, messageOf, backTo, callStep}
 use Rattle.channel.specs.declared.answer.Tick.{Tick}
+use Rattle.channel.specs.declared.zero.call.Offer.{Offer}
 use Rattle.channel.specs.declared.zero.call.ZeroCall.{ZeroCall}
 use Rattle.channel.specs.declared.zero.call.ZeroCall.the-variants.{First, Put, PutReady, Take, TakeReady, Wait, ReadyWait, Leave, Ask}
 use Rattle.channel.specs.declared.zero.outcome.ZeroEffect.{ZeroEffect}
@@ -46,9 +47,22 @@ withPacket z t p = record { packets = set (z .packets) (t .0) p; wakers = z .wak
 abbrev pub flagged : Zero → Zero
 flagged z = record { packets = z .packets; wakers = z .wakers; disconnected = true }
 
+abbrev pub withMessage : Zero → Thread → ℕ → Zero
+withMessage z t m = withPacket z t (packet m (packetAt z t .ready))
+
+abbrev pub withReady : Zero → Thread → Zero
+withReady z t = withPacket z t (packet (packetAt z t .message) true)
+
 -- What leave uses of a packet: a sender's message.
 abbrev pub keptAtLeave : Side → Packet → Packet
 keptAtLeave σ p = packet (backTo σ (p .message)) false
+
+abbrev pub withLeave : Zero → Side → Thread → Zero
+withLeave z σ t = withPacket z t (keptAtLeave σ (packetAt z t))
+
+-- A waiter joins the end of its side's queue and gets a new packet: mark clear; a sender's holds its message.
+abbrev pub joinedBy : Zero → Thread → Offer → Zero
+joinedBy z t o = withPacket (withWakers z (registered (z .wakers) (sideOf o) t)) t (packet (messageOf o) false)
 
 -- The thread whose packet a step may load: the partner's to take from, else the own.
 abbrev pub packetFor : Thread → ZeroCall → Thread
@@ -88,13 +102,12 @@ module _ (z : Zero) (t : Thread) where
   abbrev pub applied : ZeroEffect → Zero
   applied effect.Nothing = z
   applied (effect.Pick σ v) = withWakers z (picked (z .wakers) σ v)
-  applied (effect.Join o) = withPacket (withWakers z (registered (z .wakers) (sideOf o) t)) t (packet (messageOf o) false)
-  applied (effect.PutMessage v m) = withPacket z v (packet m (packetAt z v .ready))
-  applied (effect.TakeMessage v) = withPacket z v (packet 0 (packetAt z v .ready))
-  applied (effect.SetReady v) = withPacket z v (packet (packetAt z v .message) true)
-  applied (effect.Abort σ) =
-      withPacket (withWakers z (selected (z .wakers) t word.Aborted)) t (keptAtLeave σ (packetAt z t))
-  applied (effect.GiveUp σ) = withPacket z t (keptAtLeave σ (packetAt z t))
+  applied (effect.Join o) = joinedBy z t o
+  applied (effect.PutMessage v m) = withMessage z v m
+  applied (effect.TakeMessage v) = withMessage z v 0
+  applied (effect.SetReady v) = withReady z v
+  applied (effect.Abort σ) = withLeave (withWakers z (selected (z .wakers) t word.Aborted)) σ t
+  applied (effect.GiveUp σ) = withLeave z σ t
   applied (effect.Leave σ) = withPacket (withWakers z (unregistered (z .wakers) σ t)) t noPacket
   applied effect.Clear = withPacket (withWakers z (withWord (z .wakers) t word.Waiting)) t noPacket
   applied effect.Disconnect = flagged (withWakers z (disconnected (z .wakers)))

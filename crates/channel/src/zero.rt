@@ -2,9 +2,13 @@
 ghost use mathlib.Core.Path.{_≡_};
 ghost use Prim.Native.Nat.{_<_};
 ghost use Rattle.waker.specs.Context.{threads};
-ghost use Rattle.channel.specs.Zero.{freshZero, packetAt, withWakers, withPacket, keptAtLeave, foundBy, packetFor, sightOf, applied, zeroStep};
+ghost use Rattle.waker.specs.Waker.{Open};
+ghost use Rattle.waker.specs.Wakers.{queueOn};
+ghost use Rattle.channel.specs.ZeroSteps.{sideOf};
+ghost use Rattle.channel.specs.Zero.{freshZero, packetAt, withWakers, withPacket, withMessage, withReady, withLeave, joinedBy, foundBy, packetFor, sightOf, applied, zeroStep};
 ghost use Rattle.channel.specs.ZeroBounds.{Roomy, Bounded, Reaches};
 use crate::answer::Tick;
+use crate::zero::call::Offer;
 use crate::zero::call::ZeroCall;
 use crate::zero::outcome::ZeroEffect;
 use crate::zero::outcome::ZeroNext;
@@ -73,16 +77,6 @@ impl ZeroCall {
             ZeroCall::Leave { side: _ } => thread,
             ZeroCall::Ask(_) => thread,
         }
-    }
-}
-
-/// What leave uses of a packet: a sender's message.
-fn kept_at_leave(side: Side, packet: Packet) -> Packet
-    ensures { λ r. ⌜ r ≡ keptAtLeave side packet ⌝ }
-{
-    Packet {
-        message: meet::back_to(side, packet.message),
-        ready: false,
     }
 }
 
@@ -174,6 +168,50 @@ impl Zero {
         self
     }
 
+    /// Another message in a thread's packet.
+    fn with_message(self, thread: Thread, message: u32) -> Zero
+        requires { ⌜ thread .0 < threads ⌝ }
+        ensures { λ r. ⌜ r ≡ withMessage self thread message ⌝ }
+    {
+        let old = self.packet(thread);
+        let ready = old.ready;
+        self.with_packet(thread, Packet { message, ready })
+    }
+
+    /// The ready mark of a thread's packet is set.
+    fn with_ready(self, thread: Thread) -> Zero
+        requires { ⌜ thread .0 < threads ⌝ }
+        ensures { λ r. ⌜ r ≡ withReady self thread ⌝ }
+    {
+        let old = self.packet(thread);
+        let message = old.message;
+        let ready = true;
+        self.with_packet(thread, Packet { message, ready })
+    }
+
+    /// A thread's packet keeps what leave uses: a sender's message.
+    fn with_leave(self, side: Side, thread: Thread) -> Zero
+        requires { ⌜ thread .0 < threads ⌝ }
+        ensures { λ r. ⌜ r ≡ withLeave self side thread ⌝ }
+    {
+        let old = self.packet(thread);
+        let message = meet::back_to(side, old.message);
+        let ready = false;
+        self.with_packet(thread, Packet { message, ready })
+    }
+
+    /// A waiter joins its side's queue with a new packet.
+    fn joined(self, thread: Thread, offer: Offer) -> Zero
+        requires { ⌜ (thread .0 < threads) × Open (queueOn (self .wakers) (sideOf offer)) ⌝ }
+        ensures { λ r. ⌜ r ≡ joinedBy self thread offer ⌝ }
+    {
+        let wakers = self.wakers;
+        let message = offer.message();
+        let ready = false;
+        self.with_wakers(wakers.register(offer.side(), thread))
+            .with_packet(thread, Packet { message, ready })
+    }
+
     /// What a step does is done.
     pub fn apply(self, thread: Thread, effect: ZeroEffect) -> Zero
         requires { ⌜ Reaches self thread effect ⌝ }
@@ -187,44 +225,13 @@ impl Zero {
         match effect {
             ZeroEffect::Nothing => self,
             ZeroEffect::Pick { side, partner } => self.with_wakers(wakers.pick(side, partner)),
-            ZeroEffect::Join { offer } => {
-                let packet = Packet {
-                    message: offer.message(),
-                    ready: false,
-                };
-                self.with_wakers(wakers.register(offer.side(), thread))
-                    .with_packet(thread, packet)
-            }
-            ZeroEffect::PutMessage { partner, message } => {
-                let old = self.packet(partner);
-                let ready = old.ready;
-                self.with_packet(partner, Packet { message, ready })
-            }
-            ZeroEffect::TakeMessage { partner } => {
-                let old = self.packet(partner);
-                let ready = old.ready;
-                self.with_packet(partner, Packet { message: 0, ready })
-            }
-            ZeroEffect::SetReady { partner } => {
-                let old = self.packet(partner);
-                let message = old.message;
-                self.with_packet(
-                    partner,
-                    Packet {
-                        message,
-                        ready: true,
-                    },
-                )
-            }
-            ZeroEffect::Abort { side } => {
-                let packet = kept_at_leave(side, self.packet(thread));
-                self.with_wakers(wakers.select(thread, Selected::Aborted))
-                    .with_packet(thread, packet)
-            }
-            ZeroEffect::GiveUp { side } => {
-                let packet = kept_at_leave(side, self.packet(thread));
-                self.with_packet(thread, packet)
-            }
+            ZeroEffect::Join { offer } => self.joined(thread, offer),
+            ZeroEffect::PutMessage { partner, message } => self.with_message(partner, message),
+            ZeroEffect::TakeMessage { partner } => self.with_message(partner, 0),
+            ZeroEffect::SetReady { partner } => self.with_ready(partner),
+            ZeroEffect::Abort { side } => self.with_wakers(wakers.select(thread, Selected::Aborted))
+                .with_leave(side, thread),
+            ZeroEffect::GiveUp { side } => self.with_leave(side, thread),
             ZeroEffect::Leave { side } => self.with_wakers(wakers.unregister(side, thread))
                 .with_packet(thread, clear),
             ZeroEffect::Clear => self.with_wakers(wakers.reset(thread))

@@ -25,7 +25,8 @@ use Rattle.schedule.specs.FormWaits.{isPicked, mayLeave, timesIn}
 use Rattle.schedule.specs.declared.record.Place.the-variants.{Zero, Done}
 use Rattle.schedule.specs.declared.record.ThreadRecord.{ThreadRecord}
 use Rattle.grown.proofs.Tests.{clash}
-use Rattle.grown.proofs.Times.{times-left, times-left-other, left-short}
+use Rattle.waker.proofs.WakerLaws.{without-short}
+use Rattle.grown.proofs.Times.{times-left, times-left-other}
 use Rattle.grown.proofs.Orderly.{viewOn, Orderly}
 use Rattle.grown.proofs.Places.{stands-not, stands-leaving, other-side}
 use Rattle.grown.proofs.Changes.{own}
@@ -65,7 +66,7 @@ module _ (z : Memory) (l : List ThreadRecord) (t : Thread) (H : Scene z l t) whe
       record {
         sound =
             sound-packet _ t noPacket
-            (sound-queue z σ (without t (queue z σ)) _ (omega (arith, left-short t (queue z σ), H .sound .queues σ .short))
+            (sound-queue z σ (without t (queue z σ)) _ (omega (arith, without-short t (queue z σ), H .sound .queues σ .short))
             (word-count z l t H _ t Waiting (same-words (z .wakers) σ _)) (H .sound));
         orderly =
             own {A = viewOn z l} {B = seenAfter l t (applied z t (effect.Leave σ)) (Done a)} {t = t .0} {p = Done a} (H .orderly)

@@ -37,7 +37,8 @@ use Rattle.schedule.specs.declared.record.ThreadRecord.{ThreadRecord}
 use Rattle.schedule.proofs.TimesLaws.{room}
 use Rattle.grown.proofs.Tests.{clash}
 use Rattle.grown.proofs.Lists.{at-set}
-use Rattle.grown.proofs.Times.{times-joined, times-joined-other, times-left, times-left-other, left-short, times-at, Finds, found}
+use Rattle.waker.proofs.WakerLaws.{without-short}
+use Rattle.grown.proofs.Times.{times-joined, times-joined-other, times-left, times-left-other, times-at, Finds, found}
 use Rattle.grown.proofs.Orderly.{Clean, Uses, viewOn, Picks, Orderly}
 use Rattle.grown.proofs.Places.{stands-not, stands-once, stands-waiting, other-side}
 use Rattle.grown.proofs.Changes.{own, serve}
@@ -130,7 +131,7 @@ module _ (z : Memory) (l : List ThreadRecord) (t : Thread) (H : Scene z l t) whe
       record {
         sound =
             sound-queue z ρ (without v (queue z ρ)) _
-            (omega (arith, left-short v (queue z ρ), H .sound .queues ρ .short)) (word-count z l t H c v _ same) (H .sound);
+            (omega (arith, without-short v (queue z ρ), H .sound .queues ρ .short)) (word-count z l t H c v _ same) (H .sound);
         orderly =
             pick {A = viewOn z l} {B = seenAfter l t (applied z t (effect.Pick ρ v)) (Zero (partnerFor o v))} {t = t .0} {ρ = ρ}
             {v = v} {p = Zero (partnerFor o v)} (H .orderly)

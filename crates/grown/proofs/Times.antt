@@ -49,15 +49,6 @@ times-left-other t u (e ∷ l) n = go (eqb (e .0) (t .0)) refl (times-left-other
     go true p i = rw (ne-eqb (e .0) u (λ q. n (sym q ∙ eqb-true (e .0) (t .0) p))) (omega arith)
     go false p i = rw i
 
-pub left-short : (t : Thread) (l : List Thread) → length (without t l) ≤ length l
-unfolding without if_then_else_
-left-short t [] = omega arith
-left-short t (e ∷ l) = go (eqb (e .0) (t .0)) (left-short t l)
-  where
-    go : (b : Bool) → length (without t l) ≤ length l → length (if b then without t l else e ∷ without t l) ≤ suc (length l)
-    go true h = omega arith
-    go false h = omega arith
-
 -- What stands at an index stands in the list.
 pub times-at : (l : List Thread) (i : ℕ) (d : Thread) → i < length l → 0 < timesIn (getD l i d .0) l
 unfolding timesIn if_then_else_

@@ -9,7 +9,9 @@ use Rattle.channel.specs.declared.array.call.LenPlace.the-variants as len
 use Rattle.channel.specs.declared.array.call.IsEmptyPlace.the-variants as is-empty
 use Rattle.channel.specs.declared.array.call.IsFullPlace.the-variants as is-full
 use Rattle.channel.specs.declared.array.call.ArrayCall.the-variants as array
+use Rattle.channel.specs.declared.zero.call.Offer.{Offer}
 use Rattle.channel.specs.declared.zero.call.Offer.the-variants as offer
+use Rattle.channel.specs.declared.zero.call.Limit.{Limit}
 use Rattle.channel.specs.declared.zero.call.Limit.the-variants.{Try, Until}
 use Rattle.channel.specs.declared.zero.call.Question.the-variants as ask
 use Rattle.channel.specs.declared.zero.call.ZeroCall.the-variants.{First, Ask}
@@ -55,13 +57,17 @@ startedArray IsFull m d = unlimited d (Array (array.IsFull is-full.LoadTail))
 startedArray IsDisconnected m d = unlimited d (Array array.IsDisconnected)
 startedArray Disconnect m d = unlimited d (Array array.Disconnect)
 
+-- Send and receive on a rendezvous begin with their first section.
+abbrev pub firstSection : Offer → Limit → Place
+firstSection o l = Zero (First o l)
+
 -- The message of a call that sends nothing is ignored.
 abbrev pub startedZero : Code → ℕ → Tick → Start
 startedZero Unknown m d = None
-startedZero TrySend m d = unlimited d (Zero (First (offer.Send m) Try))
-startedZero TryReceive m d = unlimited d (Zero (First offer.Receive Try))
-startedZero Send m d = At (Zero (First (offer.Send m) (Until d)))
-startedZero Receive m d = At (Zero (First offer.Receive (Until d)))
+startedZero TrySend m d = unlimited d (firstSection (offer.Send m) Try)
+startedZero TryReceive m d = unlimited d (firstSection offer.Receive Try)
+startedZero Send m d = At (firstSection (offer.Send m) (Until d))
+startedZero Receive m d = At (firstSection offer.Receive (Until d))
 startedZero Len m d = unlimited d (Zero (Ask ask.Len))
 startedZero IsEmpty m d = unlimited d (Zero (Ask ask.IsEmpty))
 startedZero IsFull m d = unlimited d (Zero (Ask ask.IsFull))

@@ -102,18 +102,21 @@ awaits σ (Zero (Ask q)) = false
 awaits σ (Done a) = false
 
 -- The partner that a place names, and that partner's side.
+abbrev pub zeroPartner : ZeroCall → Partner
+zeroPartner (First o l) = None
+zeroPartner (Put v m) = Of Receiver v
+zeroPartner (PutReady v) = Of Receiver v
+zeroPartner (Take v) = Of Sender v
+zeroPartner (TakeReady v m) = Of Sender v
+zeroPartner (Wait own d) = None
+zeroPartner (ReadyWait own) = None
+zeroPartner (Leave own) = None
+zeroPartner (Ask q) = None
+
 abbrev pub partnerOf : Place → Partner
 partnerOf Idle = None
 partnerOf (Array k) = None
-partnerOf (Zero (First o l)) = None
-partnerOf (Zero (Put v m)) = Of Receiver v
-partnerOf (Zero (PutReady v)) = Of Receiver v
-partnerOf (Zero (Take v)) = Of Sender v
-partnerOf (Zero (TakeReady v m)) = Of Sender v
-partnerOf (Zero (Wait own d)) = None
-partnerOf (Zero (ReadyWait own)) = None
-partnerOf (Zero (Leave own)) = None
-partnerOf (Zero (Ask q)) = None
+partnerOf (Zero k) = zeroPartner k
 partnerOf (Done a) = None
 
 -- How often a thread stands in a list of entries.

@@ -1,6 +1,6 @@
 //! The call codes, and the first place of each call.
 ghost use mathlib.Core.Path.{_≡_};
-ghost use Rattle.schedule.specs.Begin.{codeOf, started, startedArray, startedZero, unlimited};
+ghost use Rattle.schedule.specs.Begin.{codeOf, started, startedArray, firstSection, startedZero, unlimited};
 use crate::record::Flavour;
 use crate::record::Place;
 use channel::answer::Tick;
@@ -104,40 +104,23 @@ fn start_array(code: Code, message: u32, deadline: Tick) -> Start
     }
 }
 
+/// The first section of a send or receive on a rendezvous.
+fn first(offer: Offer, limit: Limit) -> Place
+    ensures { λ r. ⌜ r ≡ firstSection offer limit ⌝ }
+{
+    Place::Zero(ZeroCall::First { offer, limit })
+}
+
 /// The first place of a call on a rendezvous.
 fn start_zero(code: Code, message: u32, deadline: Tick) -> Start
     ensures { λ r. ⌜ r ≡ startedZero code message deadline ⌝ }
 {
     match code {
         Code::Unknown => Start::None,
-        Code::TrySend => {
-            let call = ZeroCall::First {
-                offer: Offer::Send(message),
-                limit: Limit::Try,
-            };
-            unlimited(deadline, Place::Zero(call))
-        }
-        Code::TryReceive => {
-            let call = ZeroCall::First {
-                offer: Offer::Receive,
-                limit: Limit::Try,
-            };
-            unlimited(deadline, Place::Zero(call))
-        }
-        Code::Send => {
-            let call = ZeroCall::First {
-                offer: Offer::Send(message),
-                limit: Limit::Until(deadline),
-            };
-            Start::At(Place::Zero(call))
-        }
-        Code::Receive => {
-            let call = ZeroCall::First {
-                offer: Offer::Receive,
-                limit: Limit::Until(deadline),
-            };
-            Start::At(Place::Zero(call))
-        }
+        Code::TrySend => unlimited(deadline, first(Offer::Send(message), Limit::Try)),
+        Code::TryReceive => unlimited(deadline, first(Offer::Receive, Limit::Try)),
+        Code::Send => Start::At(first(Offer::Send(message), Limit::Until(deadline))),
+        Code::Receive => Start::At(first(Offer::Receive, Limit::Until(deadline))),
         Code::Len => unlimited(deadline, Place::Zero(ZeroCall::Ask(Question::Len))),
         Code::IsEmpty => unlimited(deadline, Place::Zero(ZeroCall::Ask(Question::IsEmpty))),
         Code::IsFull => unlimited(deadline, Place::Zero(ZeroCall::Ask(Question::IsFull))),

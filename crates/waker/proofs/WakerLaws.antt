@@ -67,7 +67,7 @@ without-other t (x ∷ l) e p = rw (without-other t l e p) (go (eqb (x .0) (t .0
     go true r = refl
     go false r = refl
 
-without-short : (t : Thread) (l : List Thread) → length (without t l) ≤ length l
+pub without-short : (t : Thread) (l : List Thread) → length (without t l) ≤ length l
 unfolding without if_then_else_
 without-short t [] = omega arith
 without-short t (x ∷ l) = go (eqb (x .0) (t .0)) (without t l) (without-short t l)

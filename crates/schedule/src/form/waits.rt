@@ -3,7 +3,7 @@ ghost use mathlib.Core.Path.{_≡_};
 ghost use Prim.Native.Nat.{_≤_};
 ghost use Rattle.waker.specs.Context.{threads};
 ghost use Rattle.waker.specs.Waker.{entries};
-ghost use Rattle.schedule.specs.FormWaits.{isPicked, sameSide, unused, mayLeave, leaveInForm, zeroWaitInForm, waitInForm, queuedAt, standsOn, awaits, partnerOf, timesIn, entryInForm, queueInForm};
+ghost use Rattle.schedule.specs.FormWaits.{isPicked, sameSide, unused, mayLeave, leaveInForm, zeroWaitInForm, waitInForm, queuedAt, standsOn, awaits, zeroPartner, partnerOf, timesIn, entryInForm, queueInForm};
 use crate::record::Place;
 use channel::zero::Packet;
 use channel::zero::call::ZeroCall;
@@ -203,6 +203,44 @@ pub fn awaits(side: Side, place: Place) -> bool
     }
 }
 
+/// The partner that a call on a rendezvous names.
+fn zero_partner(call: ZeroCall) -> Partner
+    ensures { λ r. ⌜ r ≡ zeroPartner call ⌝ }
+{
+    match call {
+        ZeroCall::First { offer: _, limit: _ } => Partner::None,
+        ZeroCall::Put {
+            partner,
+            message: _,
+        } => Partner::Of {
+            side: Side::Receiver,
+            thread: partner,
+        },
+        ZeroCall::PutReady { partner } => Partner::Of {
+            side: Side::Receiver,
+            thread: partner,
+        },
+        ZeroCall::Take { partner } => Partner::Of {
+            side: Side::Sender,
+            thread: partner,
+        },
+        ZeroCall::TakeReady {
+            partner,
+            message: _,
+        } => Partner::Of {
+            side: Side::Sender,
+            thread: partner,
+        },
+        ZeroCall::Wait {
+            side: _,
+            deadline: _,
+        } => Partner::None,
+        ZeroCall::ReadyWait { side: _ } => Partner::None,
+        ZeroCall::Leave { side: _ } => Partner::None,
+        ZeroCall::Ask(_) => Partner::None,
+    }
+}
+
 /// The partner that a place names.
 pub fn partner_of(place: Place) -> Partner
     ensures { λ r. ⌜ r ≡ partnerOf place ⌝ }
@@ -210,38 +248,7 @@ pub fn partner_of(place: Place) -> Partner
     match place {
         Place::Idle => Partner::None,
         Place::Array(_) => Partner::None,
-        Place::Zero(call) => match call {
-            ZeroCall::First { offer: _, limit: _ } => Partner::None,
-            ZeroCall::Put {
-                partner,
-                message: _,
-            } => Partner::Of {
-                side: Side::Receiver,
-                thread: partner,
-            },
-            ZeroCall::PutReady { partner } => Partner::Of {
-                side: Side::Receiver,
-                thread: partner,
-            },
-            ZeroCall::Take { partner } => Partner::Of {
-                side: Side::Sender,
-                thread: partner,
-            },
-            ZeroCall::TakeReady {
-                partner,
-                message: _,
-            } => Partner::Of {
-                side: Side::Sender,
-                thread: partner,
-            },
-            ZeroCall::Wait {
-                side: _,
-                deadline: _,
-            } => Partner::None,
-            ZeroCall::ReadyWait { side: _ } => Partner::None,
-            ZeroCall::Leave { side: _ } => Partner::None,
-            ZeroCall::Ask(_) => Partner::None,
-        },
+        Place::Zero(call) => zero_partner(call),
         Place::Done(_) => Partner::None,
     }
 }

@@ -1,4 +1,4 @@
--- `start_zero` meets its contract: one case a code, each what `unlimited` ensures.
+-- `start_zero` meets its contract: one case a code.
 use Rattle.schedule.proofs.begin.start_zero.Statement.{statement}
 use Rattle.schedule.proofs.begin.start_zero.Tie as tie
 
@@ -8,11 +8,17 @@ enum-told c = c .match .keys1
 enum-told-2 : tie.Need-enum-told-2
 enum-told-2 c = c .match .keys2
 
+first-requires : tie.Need-first-requires
+first-requires c κs = tt
+
 unlimited-requires : tie.Need-unlimited-requires
 unlimited-requires c κs = tt
 
 enum-told-3 : tie.Need-enum-told-3
 enum-told-3 c = c .match .keys3
+
+first-requires-2 : tie.Need-first-requires-2
+first-requires-2 c κs = tt
 
 unlimited-requires-2 : tie.Need-unlimited-requires-2
 unlimited-requires-2 c κs = tt
@@ -20,8 +26,14 @@ unlimited-requires-2 c κs = tt
 enum-told-4 : tie.Need-enum-told-4
 enum-told-4 c = c .match .keys4
 
+first-requires-3 : tie.Need-first-requires-3
+first-requires-3 c κs = tt
+
 enum-told-5 : tie.Need-enum-told-5
 enum-told-5 c = c .match .keys5
+
+first-requires-4 : tie.Need-first-requires-4
+first-requires-4 c κs = tt
 
 enum-told-6 : tie.Need-enum-told-6
 enum-told-6 c = c .match .keys6
@@ -57,16 +69,16 @@ returns : tie.Need-returns
 returns c = rw (c .enum-told .given .1)
 
 returns-2 : tie.Need-returns-2
-returns-2 c = rw (c .before .enum-told2 .given .1) (c .unlimited .ensures)
+returns-2 c = rw (c .before .before .enum-told2 .given .1, ← c .before .first .ensures) (c .unlimited .ensures)
 
 returns-3 : tie.Need-returns-3
-returns-3 c = rw (c .before .enum-told3 .given .1) (c .unlimited2 .ensures)
+returns-3 c = rw (c .before .before .enum-told3 .given .1, ← c .before .first2 .ensures) (c .unlimited2 .ensures)
 
 returns-4 : tie.Need-returns-4
-returns-4 c = rw (c .enum-told4 .given .1)
+returns-4 c = rw (c .before .enum-told4 .given .1, c .first3 .ensures)
 
 returns-5 : tie.Need-returns-5
-returns-5 c = rw (c .enum-told5 .given .1)
+returns-5 c = rw (c .before .enum-told5 .given .1, c .first4 .ensures)
 
 returns-6 : tie.Need-returns-6
 returns-6 c = rw (c .before .enum-told6 .given .1) (c .unlimited3 .ensures)
@@ -89,11 +101,15 @@ start-zero-spec =
     (tie.spec
     enum-told
     enum-told-2
+    first-requires
     unlimited-requires
     enum-told-3
+    first-requires-2
     unlimited-requires-2
     enum-told-4
+    first-requires-3
     enum-told-5
+    first-requires-4
     enum-told-6
     unlimited-requires-3
     enum-told-7

@@ -1,0 +1,140 @@
+//! Schedule texts: random ones by a seed, and every order of the steps of two calls.
+
+/// A small random number generator (xorshift64*), so that a seed always makes the same texts.
+pub struct Random(u64);
+
+impl Random {
+    pub fn new(seed: u64) -> Random {
+        Random(seed.wrapping_mul(0x9e37_79b9_7f4a_7c15) | 1)
+    }
+
+    fn next(&mut self) -> u64 {
+        self.0 ^= self.0 >> 12;
+        self.0 ^= self.0 << 25;
+        self.0 ^= self.0 >> 27;
+        self.0.wrapping_mul(0x2545_f491_4f6c_dd1d) >> 16
+    }
+
+    fn below(&mut self, n: u64) -> u64 {
+        self.next() % n
+    }
+
+    fn one_of<T: Copy>(&mut self, choices: &[T]) -> T {
+        choices[self.below(choices.len() as u64) as usize]
+    }
+
+    /// True once in n times.
+    fn once_in(&mut self, n: u64) -> bool {
+        self.below(n) == 0
+    }
+}
+
+const NO_DEADLINE: u64 = 0xffff_ffff;
+
+fn begin(t: u64, code: u64, message: u64, deadline: u64) -> String {
+    format!("01{t:02x}{code:02x}{message:08x}{deadline:08x}")
+}
+
+/// A line that is not of the forms, or whose numbers are refused.
+fn odd_line(r: &mut Random) -> String {
+    let digits = |r: &mut Random, n: u64| -> String { (0..n).map(|_| r.one_of(&['0', '1', '2', '9', 'a', 'f'])).collect() };
+    match r.below(10) {
+        0 => String::new(),
+        1 => digits(r, 1 + 2 * 3),
+        2 => "020A".into(),
+        3 => "0200\r".into(),
+        4 => format!("02{}", digits(r, 2)),
+        5 => format!("04{}", digits(r, 2)),
+        6 => format!("00{}", digits(r, 4)),
+        7 => begin(r.below(256), r.below(256), 7, r.one_of(&[0, NO_DEADLINE])),
+        8 => format!("03{}", r.one_of(&["ffffffff", "fffffffe", "7fffffff"])),
+        _ => format!("0{}{}", r.below(10), digits(r, 2)),
+    }
+}
+
+/// A random text: threads begin calls, make steps in any order, and take their answers; some calls are made in one go.
+pub fn text(seed: u64) -> Vec<u8> {
+    let r = &mut Random::new(seed);
+    let array = r.once_in(2);
+    let capacity = if array { r.one_of(&[1, 1, 2, 2, 3, 4, 5, 7, 8, 64]) } else { 0 };
+    let threads = if r.once_in(4) { 1 + r.below(8) } else { 2 + r.below(3) };
+    let codes: &[u64] = match (array, r.below(3)) {
+        (true, 0) => &[1, 2],
+        (true, 1) => &[1, 1, 2, 2, 5, 6, 7, 8],
+        (true, _) => &[1, 2, 5, 6, 7, 8, 9],
+        (false, 0) => &[3, 4],
+        (false, 1) => &[1, 2, 3, 3, 4, 4],
+        (false, _) => &[1, 2, 3, 4, 3, 4, 5, 6, 7, 8, 9],
+    };
+    let mut lines = Vec::new();
+    if r.once_in(20) {
+        lines.push(odd_line(r));
+    }
+    lines.push(format!("00{capacity:02x}{threads:02x}"));
+    let whole_calls = r.one_of(&[0, 2, 10]);
+    for _ in 0..r.one_of(&[20, 100, 300]) {
+        let t = r.below(threads);
+        let call = |r: &mut Random| {
+            let code = r.one_of(codes);
+            let limit = if code == 3 || code == 4 { r.one_of(&[0, 3, 9, NO_DEADLINE, NO_DEADLINE]) } else { NO_DEADLINE };
+            begin(t, code, r.below(1 << 32), limit)
+        };
+        match r.below(100) {
+            n if n < whole_calls => {
+                lines.push(call(r));
+                lines.extend((0..5 + r.below(2)).map(|_| format!("02{t:02x}")));
+                lines.push(format!("04{t:02x}"));
+            }
+            10..24 => lines.push(call(r)),
+            24..34 => lines.push(format!("04{t:02x}")),
+            34..36 => lines.push(format!("03{:08x}", r.below(4))),
+            36 => lines.push(odd_line(r)),
+            _ => lines.push(format!("02{t:02x}")),
+        }
+    }
+    let mut text = lines.join("\n").into_bytes();
+    if !r.once_in(8) {
+        text.push(b'\n');
+    }
+    text
+}
+
+/// What two calls may find: nothing, a full or half full array, a stalled claim, a waiter, a disconnect.
+fn starts(capacity: u64) -> Vec<Vec<String>> {
+    let whole = |t: u64, code: u64, n: usize| {
+        let mut l = vec![begin(t, code, 5, NO_DEADLINE)];
+        l.extend(vec![format!("02{t:02x}"); n]);
+        l
+    };
+    let stalled = |code: u64, n: usize| whole(2, code, n);
+    if capacity == 0 {
+        return vec![vec![], stalled(3, 1), stalled(4, 1), whole(2, 9, 1)];
+    }
+    let taken = |l: Vec<String>| l.into_iter().chain(["0402".to_string()]).collect::<Vec<_>>();
+    vec![vec![], taken(whole(2, 1, 5)), stalled(1, 3), [taken(whole(2, 1, 5)), stalled(2, 3)].concat(), taken(whole(2, 9, 1))]
+}
+
+/// Every order of `length` steps of each pair of calls, from each start, with both answers taken.
+pub fn pairs(capacity: u64, length: u32) -> impl Iterator<Item = Vec<u8>> {
+    let codes: Vec<u64> = if capacity == 0 { (1..=9).collect() } else { vec![1, 2, 5, 6, 7, 8, 9] };
+    let mut firsts = Vec::new();
+    for start in starts(capacity) {
+        for a in &codes {
+            for b in &codes {
+                let limit = |code: u64| if code == 4 { 0 } else { NO_DEADLINE };
+                let mut lines = vec![format!("00{capacity:02x}03")];
+                lines.extend(start.clone());
+                lines.extend([begin(0, *a, 0xa, limit(*a)), begin(1, *b, 0xb, limit(*b))]);
+                firsts.push(lines);
+            }
+        }
+    }
+    firsts.into_iter().flat_map(move |lines| {
+        (0..1u32 << length).map(move |order| {
+            let mut lines = lines.clone();
+            lines.extend((0..length).map(|i| format!("02{:02x}", order >> i & 1)));
+            lines.extend(["0400", "0401", "0200", "0201", "0202", "0402"].map(String::from));
+            (lines.join("\n") + "\n").into_bytes()
+        })
+    })
+}

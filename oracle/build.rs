@@ -97,7 +97,11 @@ fn main() {
             assert_eq!(text.matches(old).count(), 1, "{}.rs: {old}", source.name);
             text = text.replace(old, new);
         }
-        all += &format!("pub mod {} {{\n{text}}}\n", source.name);
+        // What the comparison sees of a record is added at the end: it changes nothing.
+        let peek = Path::new("peek").join(source.name).with_extension("rs");
+        println!("cargo:rerun-if-changed={}", peek.display());
+        let peek = fs::read_to_string(peek).unwrap_or_default();
+        all += &format!("pub mod {} {{\n{text}{peek}}}\n", source.name);
     }
     let out = PathBuf::from(env::var_os("OUT_DIR").unwrap());
     fs::write(out.join("release.rs"), all).unwrap();

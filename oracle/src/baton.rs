@@ -1,4 +1,5 @@
 //! Real threads behind a baton: a worker stops at each gate until the schedule lets it make that one step.
+use crate::release::waker::current_thread_id;
 use std::cell::RefCell;
 use std::panic::{AssertUnwindSafe, catch_unwind, resume_unwind};
 use std::sync::{Arc, Condvar, Mutex};
@@ -9,11 +10,27 @@ const PATIENCE: Duration = Duration::from_secs(20);
 
 type Job = Box<dyn FnOnce() -> (u8, u32) + Send>;
 
+/// What a worker's next step is: which access, of the word or message at which address.
+#[derive(Clone, Copy)]
+pub enum Access {
+    Load(usize),
+    Poll(usize),
+    /// With the value to be stored.
+    Store(usize, usize),
+    /// With the value that is expected.
+    Exchange(usize, usize),
+    Mark,
+    Message(usize),
+    Lock,
+    /// A call's one step that accesses nothing.
+    Nothing,
+}
+
 enum State {
     Idle,
     Begun(Job),
     Running,
-    AtGate,
+    AtGate(Access),
     Go,
     Quit,
     Ended(u8, u32),
@@ -39,10 +56,10 @@ thread_local! {
 struct Unfinished;
 
 /// A worker waits here for its next step.
-pub fn gate() {
+pub fn gate(access: Access) {
     let Some(seat) = OWN.with(|own| own.borrow().clone()) else { return };
-    seat.change(State::AtGate);
-    let mut state = seat.turn.wait_while(seat.state.lock().unwrap(), |s| matches!(s, State::AtGate)).unwrap();
+    seat.change(State::AtGate(access));
+    let mut state = seat.turn.wait_while(seat.state.lock().unwrap(), |s| matches!(s, State::AtGate(_))).unwrap();
     let quit = matches!(*state, State::Quit);
     *state = State::Running;
     drop(state);
@@ -54,14 +71,20 @@ pub fn gate() {
 /// A worker thread, for as long as the program runs.
 pub struct Worker {
     seat: Arc<Seat>,
+    /// The release's number of the thread.
+    pub id: usize,
 }
 
 impl Worker {
     pub fn new() -> Worker {
         let seat = Arc::new(Seat { state: Mutex::new(State::Idle), turn: Condvar::new() });
         let own = seat.clone();
-        std::thread::spawn(move || work(own));
-        Worker { seat }
+        let (tell, told) = std::sync::mpsc::channel();
+        std::thread::spawn(move || {
+            tell.send(current_thread_id()).unwrap();
+            work(own)
+        });
+        Worker { seat, id: told.recv().unwrap() }
     }
 
     /// Begins a call: it runs up to its first gate.
@@ -76,6 +99,14 @@ impl Worker {
         self.settle()
     }
 
+    /// The next step of a call that has not ended.
+    pub fn next(&self) -> Option<Access> {
+        match *self.seat.state.lock().unwrap() {
+            State::AtGate(access) => Some(access),
+            _ => None,
+        }
+    }
+
     /// Ends a call that has not ended by itself.
     pub fn quit(&self) {
         self.seat.change(State::Quit);
@@ -83,7 +114,7 @@ impl Worker {
     }
 
     fn settle(&self) -> Option<(u8, u32)> {
-        let moving = |s: &mut State| !matches!(s, State::AtGate | State::Ended(..) | State::Idle);
+        let moving = |s: &mut State| !matches!(s, State::AtGate(_) | State::Ended(..) | State::Idle);
         let lock = self.seat.state.lock().unwrap();
         let (state, late) = self.seat.turn.wait_timeout_while(lock, PATIENCE, moving).unwrap();
         if late.timed_out() {

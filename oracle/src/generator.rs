@@ -56,7 +56,11 @@ fn odd_line(r: &mut Random) -> String {
 pub fn text(seed: u64) -> Vec<u8> {
     let r = &mut Random::new(seed);
     let array = r.once_in(2);
-    let capacity = if array { r.one_of(&[1, 1, 2, 2, 3, 4, 5, 7, 8, 64]) } else { 0 };
+    let capacity = match array {
+        false => 0,
+        true if r.once_in(4) => 1 + r.below(64),
+        true => r.one_of(&[1, 1, 2, 2, 3, 4, 5, 7, 8, 64]),
+    };
     let threads = if r.once_in(4) { 1 + r.below(8) } else { 2 + r.below(3) };
     let codes: &[u64] = match (array, r.below(3)) {
         (true, 0) => &[1, 2],

@@ -1,5 +1,6 @@
 //! The thread table, the refusals and the schedule text around the release's channels.
-use crate::baton::{Worker, gate};
+use crate::baton::{Access, Worker, gate};
+use crate::record::{self, Entry, FIELDS, MESSAGES_AT, PacketSeen, QUEUES_AT, STAMPS_AT, Seen, THREADS_AT};
 use crate::release::error::{RecvTimeoutError, SendTimeoutError, TryRecvError, TrySendError};
 use crate::release::{array, zero};
 use crate::time::Instant;
@@ -24,10 +25,19 @@ enum Channel {
     Zero(Arc<zero::Channel<u32>>),
 }
 
-#[derive(Clone, Copy, PartialEq)]
+/// A running call: where it stands, the word that it polls and its packet, once it has them.
+#[derive(Clone, Copy)]
+struct Call {
+    code: u32,
+    place: u64,
+    word: usize,
+    packet: usize,
+}
+
+#[derive(Clone, Copy)]
 enum Thread {
     Idle,
-    Running,
+    Running(Call),
     Done(u8, u32),
 }
 
@@ -97,7 +107,7 @@ fn on_array(c: &array::Channel<u32>, code: u32, message: u32) -> (u8, u32) {
 fn on_zero(c: &zero::Channel<u32>, code: u32, message: u32, deadline: u32) -> (u8, u32) {
     let until = (deadline != NO_DEADLINE).then_some(Instant(deadline));
     if (5..=7).contains(&code) {
-        gate();
+        gate(Access::Nothing);
     }
     match code {
         1 => sent(c.try_send(message)),
@@ -132,9 +142,7 @@ impl Record {
         if t >= self.threads.len() {
             return 4;
         }
-        if self.threads[t] != Thread::Idle {
-            return 5;
-        }
+        let Thread::Idle = self.threads[t] else { return 5 };
         let waits = code == 3 || code == 4;
         if code == 0 || code > 9 || (waits && matches!(self.channel, Channel::Array(_))) || (!waits && deadline != NO_DEADLINE) {
             return 7;
@@ -149,17 +157,36 @@ impl Record {
                 workers[t].begin(Box::new(move || on_zero(c.channel(), code, message, deadline)));
             }
         }
-        self.threads[t] = Thread::Running;
+        self.threads[t] = Thread::Running(Call { code, place: 0, word: 0, packet: 0 });
+        self.place(workers, t);
         0
+    }
+
+    /// Where the call stands after its begin or a step.
+    fn place(&mut self, workers: &[Worker], t: usize) {
+        let Thread::Running(mut call) = self.threads[t] else { return };
+        let access = workers[t].next().unwrap();
+        match &self.channel {
+            Channel::Array(c) => call.place = record::array_place(call.code, call.place, access, |a| c.named(a)),
+            Channel::Zero(c) => {
+                call.place = record::zero_place(call.code, call.place, access);
+                if let Access::Poll(word) = access {
+                    call.word = word;
+                }
+                let (_, queues) = c.peek();
+                if let Some(own) = queues.iter().flatten().find(|entry| entry.owner == workers[t].id) {
+                    call.packet = own.packet;
+                }
+            }
+        }
+        self.threads[t] = Thread::Running(call);
     }
 
     fn step(&mut self, workers: &[Worker], t: usize) -> u8 {
         if t >= self.threads.len() {
             return 4;
         }
-        if self.threads[t] != Thread::Running {
-            return 6;
-        }
+        let Thread::Running(_) = self.threads[t] else { return 6 };
         if self.steps >= 1_000_000 {
             return 8;
         }
@@ -167,6 +194,7 @@ impl Record {
         if let Some((kind, value)) = workers[t].step() {
             self.threads[t] = Thread::Done(kind, value);
         }
+        self.place(workers, t);
         0
     }
 
@@ -193,15 +221,96 @@ impl Record {
         }
     }
 
+    /// The record's fields, as far as they show.
+    fn see(&self, workers: &[Worker]) -> Seen {
+        let mut seen: Seen = vec![Some(0); FIELDS];
+        let shown = |n: usize| Some(n as u64);
+        seen[4] = shown(self.threads.len());
+        seen[5] = shown(self.clock as usize);
+        seen[6] = shown(self.steps as usize);
+        match &self.channel {
+            Channel::Array(c) => {
+                let array = c.peek();
+                seen[0] = Some(1);
+                seen[1..4].copy_from_slice(&array.shape.map(shown));
+                seen[7] = shown(array.head);
+                seen[8] = shown(array.tail);
+                for (i, (stamp, message)) in array.slots.into_iter().enumerate() {
+                    seen[STAMPS_AT + i] = shown(stamp);
+                    seen[MESSAGES_AT + i] = Some(message as u64);
+                }
+            }
+            Channel::Zero(c) => {
+                let (flag, queues) = c.peek();
+                seen[9] = Some(flag as u64);
+                for (queue, at) in queues.iter().zip(QUEUES_AT) {
+                    seen[at] = shown(queue.len());
+                    for (i, entry) in queue.iter().enumerate() {
+                        seen[at + 1 + i] = shown(thread_of(workers, entry));
+                    }
+                }
+            }
+        }
+        for t in 0..self.threads.len() {
+            seen[THREADS_AT + 6 * t..][..6].copy_from_slice(&self.see_thread(workers, t));
+        }
+        seen
+    }
+
+    /// A thread's place with what it has saved, its word and its packet.
+    fn see_thread(&self, workers: &[Worker], t: usize) -> [Option<u64>; 6] {
+        let call = match self.threads[t] {
+            Thread::Idle => return [Some(0); 6],
+            Thread::Done(kind, value) => return [Some(0xd0 + kind as u64), Some(value as u64), Some(0), Some(0), Some(0), Some(0)],
+            Thread::Running(call) => call,
+        };
+        let second = self.saved(call, workers[t].next().unwrap());
+        if !record::waits(call.place) {
+            return [Some(call.place), None, second, Some(0), Some(0), Some(0)];
+        }
+        let word = unsafe { (*(call.word as *const crate::polled::atomic::AtomicUsize)).peek() };
+        let packet = self.packet(call);
+        [Some(call.place), None, second, Some(record::word_number(word)), Some(packet.message as u64), Some(packet.ready as u64)]
+    }
+
+    fn packet(&self, call: Call) -> PacketSeen {
+        unsafe { zero::packet_at(call.packet) }
+    }
+
+    /// What a call has saved, where its next step shows it: the position that it expects or has claimed, or its partner.
+    fn saved(&self, call: Call, next: Access) -> Option<u64> {
+        let lap = match &self.channel {
+            Channel::Array(c) => c.peek().shape[2],
+            Channel::Zero(_) => 0,
+        };
+        let whose = |address: usize, of: fn(&PacketSeen) -> usize| {
+            let owner = |thread: &Thread| matches!(thread, Thread::Running(c) if record::waits(c.place) && of(&self.packet(*c)) == address);
+            self.threads.iter().position(owner).map(|t| t as u64)
+        };
+        match (call.place, next) {
+            (0x1c | 0x2c, Access::Exchange(_, expected)) => Some(expected as u64),
+            (0x1f, Access::Store(_, stamp)) => Some(stamp as u64 - 1),
+            (0x2f, Access::Store(_, stamp)) => Some((stamp - lap) as u64),
+            (0x31 | 0x41, Access::Message(at)) => whose(at, |packet| packet.message_at),
+            (0x32 | 0x42, Access::Store(at, _)) => whose(at, |packet| packet.ready_at),
+            _ => None,
+        }
+    }
+
     /// Unfinished calls unwind. The channel is leaked: its queues may still name their packets.
     fn end(self, workers: &[Worker]) {
         for (t, thread) in self.threads.iter().enumerate() {
-            if *thread == Thread::Running {
+            if let Thread::Running(_) = thread {
                 workers[t].quit();
             }
         }
         std::mem::forget(self.channel);
     }
+}
+
+/// The thread that an entry belongs to.
+fn thread_of(workers: &[Worker], entry: &Entry) -> usize {
+    workers.iter().position(|worker| worker.id == entry.owner).unwrap()
 }
 
 fn hex(digits: &[u8]) -> Option<u32> {
@@ -217,17 +326,19 @@ impl Bench {
         Bench { workers: (0..8).map(|_| Worker::new()).collect() }
     }
 
-    /// The output of a schedule text.
-    pub fn replay(&self, text: &[u8]) -> Vec<u8> {
+    /// What a schedule text gives: each line's output, and the record after it.
+    pub fn replay(&self, text: &[u8]) -> Vec<(Vec<u8>, Seen)> {
         if text.len() > 60_000 {
-            return b"0d\n".to_vec();
+            return vec![(b"0d".to_vec(), Vec::new())];
         }
         let mut record = None;
         let mut out = Vec::new();
         let mut rest = text;
         while !rest.is_empty() {
             let n = rest.iter().position(|b| *b == b'\n').unwrap_or(rest.len());
-            out.extend(self.answer(&mut record, &rest[..n]));
+            let line = self.answer(&mut record, &rest[..n]);
+            let seen = record.as_ref().map_or(vec![Some(0); FIELDS], |r: &Record| r.see(&self.workers));
+            out.push((line, seen));
             rest = &rest[(n + 1).min(rest.len())..];
         }
         if let Some(record) = record {
@@ -238,10 +349,10 @@ impl Bench {
 
     fn answer(&self, record: &mut Option<Record>, line: &[u8]) -> Vec<u8> {
         let code = match self.serve(record, line) {
-            Ok((kind, value)) => return format!("00{kind:02x}{value:08x}\n").into_bytes(),
+            Ok((kind, value)) => return format!("00{kind:02x}{value:08x}").into_bytes(),
             Err(code) => code,
         };
-        format!("{code:02x}\n").into_bytes()
+        format!("{code:02x}").into_bytes()
     }
 
     /// An accepted take's answer, or the code of the line.

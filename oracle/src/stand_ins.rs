@@ -1,5 +1,6 @@
 //! What the release's files name: the same names, standing behind the gates.
-use crate::baton::gate;
+use crate::baton::{Access, gate};
+use std::cell::Cell;
 
 /// One word of shared memory. Only the thread that holds the baton runs, so plain accesses are sequentially consistent.
 pub struct Word<T>(std::cell::UnsafeCell<T>);
@@ -27,10 +28,34 @@ impl<T: Copy + PartialEq> Word<T> {
     }
 }
 
+/// A word's value as a number.
+pub trait Number: Copy + PartialEq {
+    fn number(self) -> usize;
+}
+
+impl Number for usize {
+    fn number(self) -> usize {
+        self
+    }
+}
+
+impl Number for bool {
+    fn number(self) -> usize {
+        self as usize
+    }
+}
+
+impl<T> Number for *mut T {
+    fn number(self) -> usize {
+        self as usize
+    }
+}
+
 /// Atomics of which the named accesses wait at a gate.
 macro_rules! atomics {
     ($load:expr, $change:expr) => {
-        use crate::stand_ins::Word;
+        use crate::baton::Access;
+        use crate::stand_ins::{Number, Word};
         pub use std::sync::atomic::Ordering;
 
         pub struct Atomic<T>(Word<T>);
@@ -48,20 +73,26 @@ macro_rules! atomics {
         }
 
         #[allow(dead_code)]
-        impl<T: Copy + PartialEq> Atomic<T> {
+        impl<T: Number> Atomic<T> {
             pub const fn new(value: T) -> Self {
                 Atomic(Word::new(value))
             }
+            pub fn peek(&self) -> T {
+                self.0.get()
+            }
+            pub fn address(&self) -> usize {
+                self as *const Self as usize
+            }
             pub fn load(&self, _: Ordering) -> T {
-                $load();
+                $load(Access::Load(self.address()));
                 self.0.get()
             }
             pub fn store(&self, value: T, _: Ordering) {
-                $change();
+                $change(Access::Store(self.address(), value.number()));
                 self.0.set(value)
             }
             pub fn compare_exchange(&self, old: T, new: T, _: Ordering, _: Ordering) -> Result<T, T> {
-                $change();
+                $change(Access::Exchange(self.address(), old.number()));
                 self.0.exchange(old, new)
             }
             pub fn compare_exchange_weak(&self, old: T, new: T, a: Ordering, b: Ordering) -> Result<T, T> {
@@ -72,7 +103,7 @@ macro_rules! atomics {
         #[allow(dead_code)]
         impl Atomic<usize> {
             pub fn fetch_or(&self, bits: usize, _: Ordering) -> usize {
-                $change();
+                $change(Access::Mark);
                 let old = self.0.get();
                 self.0.set(old | bits);
                 old
@@ -81,7 +112,13 @@ macro_rules! atomics {
     };
 }
 
-fn quiet() {}
+fn quiet(_: Access) {}
+
+/// A poll's load, known as one.
+fn poll(access: Access) {
+    let Access::Load(word) = access else { unreachable!() };
+    gate(Access::Poll(word));
+}
 
 /// Every access is a step: the array's words and the packets' ready marks.
 pub mod gated {
@@ -99,8 +136,11 @@ pub mod gated {
             Mutex(std::sync::Mutex::new(value))
         }
         pub fn lock(&self) -> std::sync::LockResult<std::sync::MutexGuard<'_, T>> {
-            crate::baton::gate();
+            crate::baton::gate(crate::baton::Access::Lock);
             self.0.lock()
+        }
+        pub fn peek(&self) -> std::sync::MutexGuard<'_, T> {
+            self.0.lock().unwrap()
         }
     }
 }
@@ -117,24 +157,54 @@ pub mod quiet_words {
 /// A load is a step.
 pub mod polled_words {
     pub mod atomic {
-        use crate::stand_ins::{gate, quiet};
-        atomics!(gate, quiet);
+        use crate::stand_ins::{poll, quiet};
+        atomics!(poll, quiet);
     }
 }
 
 /// A message's place. Its store or take is a step where the release's text was changed to say so.
-pub struct UnsafeCell<T>(std::cell::UnsafeCell<T>);
+pub struct UnsafeCell<T> {
+    cell: std::cell::UnsafeCell<T>,
+    full: Cell<bool>,
+}
+
+/// A message's place, reached through a gate.
+pub struct Gated<'a, T>(&'a UnsafeCell<T>);
 
 impl<T> UnsafeCell<T> {
     pub fn new(value: T) -> Self {
-        UnsafeCell(std::cell::UnsafeCell::new(value))
+        UnsafeCell { cell: std::cell::UnsafeCell::new(value), full: Cell::new(false) }
     }
     pub fn get(&self) -> *mut T {
-        self.0.get()
+        self.cell.get()
     }
-    pub fn at_gate(&self) -> *mut T {
-        gate();
-        self.0.get()
+    pub fn at_gate(&self) -> Gated<'_, T> {
+        gate(Access::Message(self.get() as usize));
+        Gated(self)
+    }
+}
+
+impl<T> Gated<'_, T> {
+    pub unsafe fn write(&self, value: T) {
+        self.0.full.set(true);
+        unsafe { self.0.get().write(value) }
+    }
+    pub unsafe fn read(&self) -> T {
+        self.0.full.set(false);
+        unsafe { self.0.get().read() }
+    }
+    pub unsafe fn replace(&self, value: T) -> T {
+        unsafe { self.0.get().replace(value) }
+    }
+}
+
+impl UnsafeCell<std::mem::MaybeUninit<u32>> {
+    /// The message that was stored and not yet taken, or 0.
+    pub fn shown(&self) -> u32 {
+        if !self.full.get() {
+            return 0;
+        }
+        unsafe { (*self.get()).assume_init() }
     }
 }
 

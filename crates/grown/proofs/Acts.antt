@@ -1,4 +1,4 @@
--- What a public call keeps, from what its accepted changes keep.
+-- What holds of a public call's reply, from what holds of a refusal and of its five accepted changes.
 use Prim.Native.Nat.{ℕ, _+_, _<_, _≤_}
 use mathlib.Core.Path.{_≡_, refl}
 use mathlib.Core.Bool.{Bool, true, false}
@@ -14,17 +14,84 @@ use Rattle.channel.specs.declared.answer.Tick.{Tick}
 use Rattle.channel.specs.declared.answer.Answer.{Answer}
 use Rattle.channel.specs.declared.array.call.ArrayCall.{ArrayCall}
 use Rattle.channel.specs.declared.zero.call.ZeroCall.{ZeroCall}
-use Rattle.schedule.specs.Record.{placeOf, withThread, withClock, afterArray, afterZero}
+use Rattle.schedule.specs.Record.{placeOf, withThread, withClock, afterArray, afterZero, replied, refusedWith, acceptedAs}
 use Rattle.schedule.specs.Begin.{started}
 use Rattle.schedule.specs.Form.{inForm, stepLimit, clockLimit}
 use Rattle.schedule.specs.Calls.{formed, threaded, begun, begunInForm, begunAt, startedOn, stepped, steppedInForm, steppedAt, advanced, advancedInForm, taken, takenInForm, takenAt}
-use Rattle.schedule.specs.History.{Act, begins, steps, advances, takes, actOn, after}
+use Rattle.schedule.specs.History.{Act, begins, steps, advances, takes, actOn, after, Moment, remembered, reached, next}
 use Rattle.schedule.specs.declared.begin.Start.{Start}
 use Rattle.schedule.specs.declared.begin.Start.the-variants.{None, At}
 use Rattle.schedule.specs.declared.record.Place.{Place}
 use Rattle.schedule.specs.declared.record.Place.the-variants.{Idle, Array, Zero, Done}
 use Rattle.schedule.specs.declared.record.Record.{Record}
 use Rattle.schedule.specs.declared.record.Replied.{Replied}
+use Rattle.schedule.specs.declared.refusal.Refusal.{Refusal}
+use Rattle.schedule.specs.declared.refusal.Refusal.the-variants.{OutOfForm, NoSuchThread, NotIdle, NotRunning, UnknownCall, StepLimit, ClockLimit, NoAnswer}
+use Rattle.schedule.specs.declared.refusal.Reply.the-variants.{Took}
+
+-- P holds of a refusal, which changes nothing, and of each accepted change.
+pub record Cases (r : Record) (P : Act → Replied → Type 0) : Type 0 where
+  pub refuse : (a : Act) (n : Refusal) → P a (refusedWith r n)
+  pub begin : (t : Thread) (c m : ℕ) (d : Tick) (p : Place) → t .0 < r .count → placeOf r (t .0) ≡ Idle →
+      started (r .flavour) c m d ≡ At p → P (begins t c m d) (acceptedAs (withThread r (t .0) p))
+  pub array : (t : Thread) (k : ArrayCall) → t .0 < r .count → r .steps < stepLimit → placeOf r (t .0) ≡ Array k →
+      P (steps t) (acceptedAs (afterArray r (t .0) (arrayStep (r .shape) (r .array) k)))
+  pub zero : (t : Thread) (k : ZeroCall) → t .0 < r .count → r .steps < stepLimit → placeOf r (t .0) ≡ Zero k →
+      P (steps t) (acceptedAs (afterZero r (t .0) (zeroStep (r .zero) t (r .clock) k)))
+  pub advance : (n : Tick) → r .clock .0 + n .0 ≤ clockLimit →
+      P (advances n) (acceptedAs (withClock r (ticks (r .clock .0 + n .0))))
+  pub take : (t : Thread) (a : Answer) → t .0 < r .count → placeOf r (t .0) ≡ Done a →
+      P (takes t) (replied (withThread r (t .0) Idle) (Took a))
+
+module _ (r : Record) (P : Act → Replied → Type 0) (C : Cases r P) where
+  either : (a : Act) (b : Bool) {x y : Replied} → (b ≡ true → P a x) → (b ≡ false → P a y) → P a (if b then x else y)
+  unfolding if_then_else_
+  either a true p q = p refl
+  either a false p q = q refl
+
+  on-start : (t : Thread) (c m : ℕ) (d : Tick) (s : Start) → t .0 < r .count → placeOf r (t .0) ≡ Idle →
+      started (r .flavour) c m d ≡ s → P (begins t c m d) (startedOn r (t .0) s)
+  on-start t c m d None l e f = C .refuse _ UnknownCall
+  on-start t c m d (At p) l e f = C .begin t c m d p l e f
+
+  on-begin : (t : Thread) (c m : ℕ) (d : Tick) (p : Place) → t .0 < r .count → placeOf r (t .0) ≡ p →
+      P (begins t c m d) (begunAt r (t .0) p (started (r .flavour) c m d))
+  on-begin t c m d Idle l e = on-start t c m d _ l e refl
+  on-begin t c m d (Array k) l e = C .refuse _ NotIdle
+  on-begin t c m d (Zero k) l e = C .refuse _ NotIdle
+  on-begin t c m d (Done a) l e = C .refuse _ NotIdle
+
+  on-step : (t : Thread) (p : Place) → t .0 < r .count → placeOf r (t .0) ≡ p → P (steps t) (steppedAt r t p)
+  on-step t Idle l e = C .refuse _ NotRunning
+  on-step t (Array k) l e =
+      either (steps t) (leb stepLimit (r .steps)) (λ b. C .refuse _ StepLimit) (λ b. C .array t k l (leb-false _ _ b) e)
+  on-step t (Zero k) l e =
+      either (steps t) (leb stepLimit (r .steps)) (λ b. C .refuse _ StepLimit) (λ b. C .zero t k l (leb-false _ _ b) e)
+  on-step t (Done a) l e = C .refuse _ NotRunning
+
+  on-take : (t : Thread) (p : Place) → t .0 < r .count → placeOf r (t .0) ≡ p → P (takes t) (takenAt r (t .0) p)
+  on-take t Idle l e = C .refuse _ NoAnswer
+  on-take t (Array k) l e = C .refuse _ NoAnswer
+  on-take t (Zero k) l e = C .refuse _ NoAnswer
+  on-take t (Done a) l e = C .take t a l e
+
+  -- The tests before: the record is in form, and the thread is there.
+  tested : (a : Act) (t : Thread) (x : Replied) → (t .0 < r .count → P a x) → P a (formed r (threaded r t x))
+  tested a t x h =
+      either a (inForm r)
+      (λ f. either a (leb (r .count) (t .0)) (λ b. C .refuse _ NoSuchThread) (λ b. h (leb-false _ _ b)))
+      (λ f. C .refuse _ OutOfForm)
+
+  -- And so of every reply.
+  pub every-reply : (a : Act) → P a (actOn r a)
+  unfolding begun begunInForm stepped steppedInForm advanced advancedInForm taken takenInForm
+  every-reply (begins t c m d) = tested _ t _ (λ l. on-begin t c m d _ l refl)
+  every-reply (steps t) = tested _ t _ (λ l. on-step t _ l refl)
+  every-reply (advances n) =
+      either _ (inForm r)
+      (λ f. either _ (ltb clockLimit (r .clock .0 + n .0)) (λ b. C .refuse _ ClockLimit) (λ b. C .advance n (ltb-false _ _ b)))
+      (λ f. C .refuse _ OutOfForm)
+  every-reply (takes t) = tested _ t _ (λ l. on-take t _ l refl)
 
 -- Each accepted change of a record keeps K.
 pub record Moves (K : Record → Type 0) (r : Record) : Type 0 where
@@ -37,67 +104,30 @@ pub record Moves (K : Record → Type 0) (r : Record) : Type 0 where
   pub advance : (n : ℕ) → r .clock .0 + n ≤ clockLimit → K (withClock r (ticks (r .clock .0 + n)))
   pub take : (t : ℕ) (a : Answer) → t < r .count → placeOf r t ≡ Done a → K (withThread r t Idle)
 
-module _ (K : Record → Type 0) (r : Record) (k : K r) (M : Moves K r) where
-  record Keeps (y : Replied) : Type 0 where
-    keeps : K (y .next)
-
-  either : (b : Bool) {x y : Replied} → (b ≡ true → Keeps x) → (b ≡ false → Keeps y) → Keeps (if b then x else y)
-  unfolding if_then_else_
-  either true p q = p refl
-  either false p q = q refl
-
-  same : {y : Replied} → y .next ≡ r → Keeps y
-  same e = record { keeps = rw e k }
-
-  on-start : (t c m : ℕ) (d : Tick) (s : Start) → t < r .count → placeOf r t ≡ Idle → started (r .flavour) c m d ≡ s →
-      Keeps (startedOn r t s)
-  on-start t c m d None l e f = same refl
-  on-start t c m d (At p) l e f = record { keeps = M .begin t c m d p l e f }
-
-  on-begin : (t c m : ℕ) (d : Tick) (p : Place) → t < r .count → placeOf r t ≡ p →
-      Keeps (begunAt r t p (started (r .flavour) c m d))
-  on-begin t c m d Idle l e = on-start t c m d _ l e refl
-  on-begin t c m d (Array k) l e = same refl
-  on-begin t c m d (Zero k) l e = same refl
-  on-begin t c m d (Done a) l e = same refl
-
-  on-step : (t : Thread) (p : Place) → t .0 < r .count → placeOf r (t .0) ≡ p → Keeps (steppedAt r t p)
-  on-step t Idle l e = same refl
-  on-step t (Array k) l e =
-      either (leb stepLimit (r .steps)) (λ b. same refl)
-      (λ b. record { keeps = M .array (t .0) k l (leb-false _ _ b) e })
-  on-step t (Zero k) l e =
-      either (leb stepLimit (r .steps)) (λ b. same refl) (λ b. record { keeps = M .zero t k l (leb-false _ _ b) e })
-  on-step t (Done a) l e = same refl
-
-  on-take : (t : ℕ) (p : Place) → t < r .count → placeOf r t ≡ p → Keeps (takenAt r t p)
-  on-take t Idle l e = same refl
-  on-take t (Array k) l e = same refl
-  on-take t (Zero k) l e = same refl
-  on-take t (Done a) l e = record { keeps = M .take t a l e }
-
-  -- The tests before: the record is in form, and the thread is there.
-  tested : (t : Thread) (x : Replied) → (t .0 < r .count → Keeps x) → Keeps (formed r (threaded r t x))
-  tested t x h =
-      either (inForm r) (λ a. either (leb (r .count) (t .0)) (λ b. same refl) (λ b. h (leb-false _ _ b))) (λ a. same refl)
-
-  on-act : (a : Act) → Keeps (actOn r a)
-  unfolding begun begunInForm stepped steppedInForm advanced advancedInForm taken takenInForm
-  on-act (begins t c m d) = tested t _ (λ l. on-begin (t .0) c m d _ l refl)
-  on-act (steps t) = tested t _ (λ l. on-step t _ l refl)
-  on-act (advances n) =
-      either (inForm r)
-      (λ a.
-      either (ltb clockLimit (r .clock .0 + n .0)) (λ b. same refl)
-      (λ b. record { keeps = M .advance (n .0) (ltb-false _ _ b) }))
-      (λ a. same refl)
-  on-act (takes t) = tested t _ (λ l. on-take (t .0) _ l refl)
-
-  pub kept : (a : Act) → K (actOn r a .next)
-  kept a = on-act a .keeps
+pub kept : (K : Record → Type 0) (r : Record) → K r → Moves K r → (a : Act) → K (actOn r a .next)
+kept K r k M =
+    every-reply r (λ a y. K (y .next))
+    (record {
+      refuse = λ a n. k;
+      begin = λ t c m d p. M .begin (t .0) c m d p;
+      array = λ t c. M .array (t .0) c;
+      zero = λ t c. M .zero t c;
+      advance = λ n. M .advance (n .0);
+      take = λ t a. M .take (t .0) a;
+    })
 
 -- What every change keeps, every history keeps.
 pub throughout : (K : Record → Type 0) → ((r : Record) → K r → Moves K r) → (r : Record) → K r → (l : List Act) → K (after r l)
 unfolding after
 throughout K M r k [] = k
 throughout K M r k (a ∷ l) = throughout K M (actOn r a .next) (kept K r k (M r k) a) l
+
+-- The same of what is remembered.
+module _ {H : Type 0} (rule : Record → H → Act → H) (K : Moment H → Type 0) where
+  abbrev pub Onward : Moment H → Act → Replied → Type 0
+  Onward M a y = K (record { now = y .next; past = remembered rule M a (y .reply) })
+
+  pub throughout-past : ((M : Moment H) → K M → Cases (M .now) (Onward M)) → (M : Moment H) → K M → (l : List Act) → K (reached rule M l)
+  unfolding reached
+  throughout-past C M k [] = k
+  throughout-past C M k (a ∷ l) = throughout-past C (next rule M a) (every-reply (M .now) (Onward M) (C M k) a) l

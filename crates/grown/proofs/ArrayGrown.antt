@@ -1,37 +1,32 @@
 -- A fresh array's record has what histories keep, and so every record grown from it is in form.
 use Prim.Native.Nat.{ℕ, zero, suc, _+_, _-_, _<_, _≤_}
 use mathlib.Core.Path.{_≡_, refl, ap, _∙_}
-use mathlib.Core.Bool.{Bool, true, false}
 use mathlib.Core.List.{List}
 use native.Mathlib.Omega.{arith}
 use native.Mathlib.Nat.{zero-mod, mod-eq-of-lt}
 use lib.ListN.{getD, length, List·getD-append}
-use lib.Dec.{eqb, ltb}
-use borrow.Author.Tests.{eqb-false, ltb-false}
-use Rattle.waker.specs.Choice.{if_then_else_}
 use Rattle.waker.specs.Context.{threads}
 use Rattle.channel.specs.Position.{slots, at, shapeOf}
 use Rattle.channel.specs.ArrayBounds.{Fits}
 use Rattle.channel.specs.Array.{stampsFrom, freshArray}
 use Rattle.channel.specs.declared.position.Position.{Position}
 use Rattle.channel.proofs.PositionLaws.{sized}
-use Rattle.schedule.specs.Record.{threadAt, refusedWith, acceptedAs}
-use Rattle.schedule.specs.Making.{madeArray, madeFor, zeroRecord, freshArrayRecord}
+use Rattle.schedule.specs.Record.{threadAt, acceptedAs}
+use Rattle.schedule.specs.Making.{madeArray, freshArrayRecord}
 use Rattle.schedule.specs.Form.{InForm}
 use Rattle.schedule.specs.History.{Act, after}
 use Rattle.schedule.specs.declared.record.Place.the-variants.{Idle}
 use Rattle.schedule.specs.declared.record.Record.{Record}
-use Rattle.schedule.specs.declared.refusal.Refusal.the-variants.{Capacity}
 use Rattle.grown.proofs.Lists.{all-one, past-all}
 use Rattle.grown.proofs.Acts.{throughout}
-use Rattle.grown.proofs.Makes.{refused-not, made}
+use Rattle.grown.proofs.Makes.{MadeArray, made-array}
 use Rattle.grown.proofs.Words.{Clear, plain}
 use Rattle.grown.proofs.ArrayKept.{Memories, KeptArray, reach}
 use Rattle.grown.proofs.ArrayForm.{kept-in-form}
 use Rattle.grown.proofs.ArrayMoves.{array-moves}
 
 -- What stamps have at an index.
-stamps-length : (j n : ℕ) → length (stampsFrom j n) ≡ n
+pub stamps-length : (j n : ℕ) → length (stampsFrom j n) ≡ n
 unfolding stampsFrom
 stamps-length j zero = refl
 stamps-length j (suc n) = ap suc (stamps-length (suc j) n)
@@ -41,6 +36,11 @@ unfolding stampsFrom
 stamps-at j zero i d l = absurd (omega arith)
 stamps-at j (suc n) zero d l = ap at (omega arith)
 stamps-at j (suc n) (suc i) d l = stamps-at (suc j) n i d (omega arith) ∙ ap at (omega arith)
+
+pub fresh-stamps : (c i : ℕ) → i < c → getD (freshArray c .stamps) i (at 0) ≡ at i
+fresh-stamps c i l =
+    List·getD-append (stampsFrom 0 c) _ (at 0) i (omega (arith, stamps-length 0 c)) ∙ stamps-at 0 c i (at 0) l
+    ∙ ap at (omega arith)
 
 module _ (c : ℕ) (some : 0 < c) (most : c ≤ slots) where
   F : Fits (shapeOf c)
@@ -52,10 +52,7 @@ module _ (c : ℕ) (some : 0 < c) (most : c ≤ slots) where
         head = clear;
         tail = plain clear;
         stamps = λ i l.
-            let e : getD (freshArray c .stamps) i (at 0) ≡ at i =
-            List·getD-append (stampsFrom 0 c) _ (at 0) i (omega (arith, stamps-length 0 c)) ∙ stamps-at 0 c i (at 0) l
-            ∙ ap at (omega arith) in
-            rw e
+            rw (fresh-stamps c i l)
             (record {
               low = omega (arith, F .room, F .twice);
               clear = omega (arith, mod-eq-of-lt {n = i} {m = shapeOf c .lap} (omega (arith, F .room, F .twice)), F .room);
@@ -83,21 +80,9 @@ module _ (c : ℕ) (some : 0 < c) (most : c ≤ slots) where
         beyond = λ t l. rw (all-one threads t (threadAt Idle));
       }
 
-kept-fresh : (c n : ℕ) (r : Record) → madeArray c n ≡ acceptedAs r → KeptArray r
-unfolding madeArray if_then_else_
-kept-fresh c n r = go (eqb c 0) (ltb slots c) refl refl
-  where
-    go : (a b : Bool) → eqb c 0 ≡ a → ltb slots c ≡ b →
-        (if a then refusedWith zeroRecord Capacity else if b then refusedWith zeroRecord Capacity
-        else madeFor n (freshArrayRecord c n)) ≡ acceptedAs r →
-        KeptArray r
-    go true b p q e = absurd (refused-not zeroRecord r Capacity e)
-    go false true p q e = absurd (refused-not zeroRecord r Capacity e)
-    go false false p q e =
-        let c0 : c ≡ 0 → ⊥ = eqb-false c 0 p in
-        let m = made (freshArrayRecord c n) n r e in
-        rw (m .same) at (fresh-kept c (omega arith) (ltb-false slots c q) n (m .some) (m .few))
+pub kept-fresh : (c n : ℕ) (r : Record) → MadeArray c n r → KeptArray r
+kept-fresh c n r m = rw (m .made .same) at (fresh-kept c (m .some) (m .most) n (m .made .some) (m .made .few))
 
 -- A record grown from a fresh array's is in form.
 pub grown-array : (c n : ℕ) (r : Record) → madeArray c n ≡ acceptedAs r → (l : List Act) → InForm (after r l)
-grown-array c n r e l = kept-in-form (after r l) (throughout KeptArray array-moves r (kept-fresh c n r e) l)
+grown-array c n r e l = kept-in-form (after r l) (throughout KeptArray array-moves r (kept-fresh c n r (made-array c n r e)) l)

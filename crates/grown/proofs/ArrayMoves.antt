@@ -2,7 +2,6 @@
 use Prim.Native.Nat.{ℕ, _+_, _*_, _<_}
 use mathlib.Core.Path.{_≡_, refl}
 use native.Mathlib.Omega.{arith}
-use Rattle.waker.specs.Context.{threads}
 use Rattle.channel.specs.Position.{at}
 use Rattle.channel.specs.ArrayBounds.{Fits}
 use Rattle.channel.specs.Array.{outcomeOf, arrayStep}
@@ -49,8 +48,8 @@ more : (n l : ℕ) → (n + 1) * l ≡ n * l + l
 more n l = omega arith
 
 module _ (r : Record) (k : KeptArray r) where
-  F : Fits (r .shape)
-  F = rw (k .shape) (sized (k .capacity) (k .some) (k .most) .shaped)
+  pub fits : Fits (r .shape)
+  fits = rw (k .shape) (sized (k .capacity) (k .some) (k .most) .shaped)
 
   moved : (t : ℕ) (p : Place) → t < r .count → PlaceSaved (r .shape) (reach r) p → KeptArray (withThread r t p)
   moved t p l h =
@@ -85,12 +84,12 @@ module _ (r : Record) (k : KeptArray r) where
             rw (more (r .steps) (r .shape .lap))
             (at-set (λ (x : ThreadRecord). PlaceSaved (r .shape) (reach r + r .shape .lap) (x .place)) (r .threads) t u
             (threadAt (placeAfterArray (outcomeOf (r .shape) (r .array) c .next))) (threadAt Idle)
-            (λ e. good .place) (place-later (r .shape) F (reach r) (placeOf r u) (k .places u)));
+            (λ e. good .place) (place-later (r .shape) fits (reach r) (placeOf r u) (k .places u)));
         beyond = still-idle r t _ l (k .beyond);
       }
     where
-      good : Good (r .shape) F (reach r) (r .array) (k .memory) (outcomeOf (r .shape) (r .array) c)
-      good = step-good (r .shape) F (reach r) (r .array) (k .memory) c (rw e at (k .places t))
+      good : Good (r .shape) fits (reach r) (r .array) (k .memory) (outcomeOf (r .shape) (r .array) c)
+      good = step-good (r .shape) fits (reach r) (r .array) (k .memory) c (rw e at (k .places t))
 
   pub array-moves : Moves KeptArray r
   array-moves =

@@ -34,7 +34,7 @@ use Rattle.grown.proofs.ZeroMemory.{packet-else, same-words, at-queue, 
 use Rattle.grown.proofs.Scene.{placeIn, queue, seenAfter, Scene, here, away, my-word, other-word, my-packet, word-count, absent, Good}
 
 -- A picked word does not show as unpicked.
-unlike : {w : Selected} → w ≡ Picked → isPicked w ≡ false → ⊥
+pub unlike : {w : Selected} → w ≡ Picked → isPicked w ≡ false → ⊥
 unlike e f = clash (rw e at f)
 
 module _ (z : Memory) (l : List ThreadRecord) (t : Thread) (H : Scene z l t) where

@@ -9,13 +9,14 @@ use native.Mathlib.Decide.{ℕ-discrete}
 use borrow.Author.Tests.{eq-eqb}
 use Rattle.waker.specs.Choice.{if_then_else_}
 use Rattle.waker.specs.Context.{thread, context, wordIn, trySelected}
-use Rattle.waker.specs.Wakers.{selectedIn, turnedAll}
+use Rattle.waker.specs.Wakers.{listed, wordOf, selectedIn, turnedAll, disconnected}
 use Rattle.waker.specs.declared.context.Thread.{Thread}
 use Rattle.waker.specs.declared.context.Context.{Context}
 use Rattle.waker.specs.declared.context.Selected.{Selected}
 use Rattle.waker.specs.declared.context.Selected.the-variants.{Waiting, Picked, Aborted, Disconnected}
 use Rattle.waker.specs.declared.wakers.Side.{Side}
 use Rattle.waker.specs.declared.wakers.Side.the-variants.{Sender, Receiver}
+use Rattle.waker.specs.declared.wakers.Wakers.{Wakers}
 use Rattle.schedule.specs.FormWaits.{queuedAt, standsOn, awaits, partnerOf, timesIn}
 use Rattle.schedule.specs.declared.form.waits.Partner.the-variants.{None, Of}
 use Rattle.schedule.specs.declared.record.Place.{Place}
@@ -157,3 +158,12 @@ turned-all [] l u = stays refl
 turned-all (e ∷ q) l u =
     turned-then {m = timesIn u (e ∷ [])} (omega arith) (turned-one l e u)
     (turned-more (omega arith) (turned-all q (selectedIn l e Disconnected) u))
+
+-- Both walks together.
+pub turned-both : (w : Wakers) (u : ℕ) →
+    Turned (timesIn u (listed w Sender) + timesIn u (listed w Receiver)) (wordOf w (thread u)) (wordOf (disconnected w) (thread u))
+turned-both w u =
+    turned-then {m = timesIn u (listed w Sender)} (omega arith)
+    (turned-all (listed w Sender) (w .contexts) u)
+    (turned-more {m = timesIn u (listed w Receiver)} (omega arith)
+    (turned-all (listed w Receiver) (turnedAll (listed w Sender) (w .contexts)) u))

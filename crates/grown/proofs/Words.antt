@@ -13,7 +13,7 @@ use Rattle.channel.specs.declared.position.Position.{Position}
 use Rattle.channel.specs.declared.position.Shape.{Shape}
 use Rattle.grown.proofs.Tests.{clash}
 
-mod-at : (n q c r : ℕ) → r < c → n ≡ q * c + r → n % c ≡ r
+pub mod-at : (n q c r : ℕ) → r < c → n ≡ q * c + r → n % c ≡ r
 mod-at n q c r h e = rw e (mul-add-mod-self-right q c r ∙ mod-eq-of-lt h)
 
 -- A head, or a tail without its mark: at most B, and of a slot below the capacity.

@@ -82,11 +82,15 @@ module _ (n : ℕ) where
         orderly = fresh-orderly;
       }
 
-  kept-fresh : (r : Record) → madeZero n ≡ acceptedAs r → KeptZero r
+  pub kept-fresh : (r : Record) → madeZero n ≡ acceptedAs r → KeptZero r
   unfolding madeZero
   kept-fresh r e =
       let m = made (freshZeroRecord n) n r e in
       rw (m .same) at (fresh-kept (m .some) (m .few))
+
+  pub idle-fresh : (r : Record) → madeZero n ≡ acceptedAs r → (u : ℕ) → placeOf r u ≡ Idle
+  unfolding madeZero
+  idle-fresh r e u = rw (← made (freshZeroRecord n) n r e .same) (fresh-idle u)
 
   -- A record grown from a fresh rendezvous' is in form.
   pub grown-zero : (r : Record) → madeZero n ≡ acceptedAs r → (l : List Act) → InForm (after r l)

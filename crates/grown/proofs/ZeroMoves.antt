@@ -75,7 +75,7 @@ module _ (m : ℕ) (d : Tick) (p : Place) where
   first-place Disconnect e = begins (ask-quiet _) e
 
 module _ (r : Record) (k : KeptZero r) where
-  scene : (t : Thread) → t .0 < r .count → Scene (r .zero) (r .threads) t
+  pub scene : (t : Thread) → t .0 < r .count → Scene (r .zero) (r .threads) t
   scene t l =
       record {
         sound = k .sound;

@@ -2,7 +2,6 @@
 use mathlib.Core.Path.{_≡_, refl, sym, _∙_}
 use mathlib.Core.Bool.{Bool, true}
 use mathlib.Core.List.{List}
-use native.Mathlib.Omega.{arith}
 use lib.Dec.{leb}
 use Rattle.waker.specs.Waker.{oldest}
 use Rattle.waker.specs.Wakers.{otherSide, wordOf, withContexts, turnedAll}
@@ -29,7 +28,6 @@ use Rattle.channel.specs.declared.zero.call.ZeroCall.{ZeroCall}
 use Rattle.channel.specs.declared.zero.call.ZeroCall.the-variants.{First, Put, PutReady, Take, TakeReady, Wait, ReadyWait, Leave, Ask}
 use Rattle.channel.specs.declared.zero.outcome.ZeroEffect.the-variants as effect
 use Rattle.channel.specs.declared.zero.outcome.ZeroNext.the-variants.{Ends}
-use Rattle.schedule.specs.FormWaits.{timesIn}
 use Rattle.schedule.specs.declared.record.Place.the-variants.{Zero, Done}
 use Rattle.schedule.specs.declared.record.ThreadRecord.{ThreadRecord}
 use Rattle.grown.proofs.Orderly.{viewOn}
@@ -38,7 +36,7 @@ use Rattle.grown.proofs.ZeroKept.{Sound}
 use Rattle.grown.proofs.ZeroMemory.{sound-packet, same-list, sound-words, turned-length}
 use Rattle.grown.proofs.Departures.{leave-good, clear-good, abort-good, give-up-good}
 use Rattle.grown.proofs.Meetings.{serves, join-good, pick-good}
-use Rattle.grown.proofs.Turning.{turn, turned-then, turned-more, turned-all}
+use Rattle.grown.proofs.Turning.{turn, turned-both}
 use Rattle.grown.proofs.Scene.{placeIn, queue, seenAfter, Scene, here, away, calm, idles, Good, either}
 
 module _ (z : Memory) (l : List ThreadRecord) (t : Thread) (H : Scene z l t) where
@@ -107,11 +105,7 @@ module _ (z : Memory) (l : List ThreadRecord) (t : Thread) (H : Scene z l t) whe
               place = away z l t H _;
               packet = λ u. refl;
               list = same-list (z .wakers) c;
-              word = λ u.
-                  turned-then {m = timesIn u (queue z Sender)} (omega arith)
-                  (turned-all (queue z Sender) (z .wakers .contexts) u)
-                  (turned-more {m = timesIn u (queue z Receiver)} (omega arith)
-                  (turned-all (queue z Receiver) (turnedAll (queue z Sender) (z .wakers .contexts)) u));
+              word = turned-both (z .wakers);
             });
       }
     where

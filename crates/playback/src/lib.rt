@@ -2,3 +2,4 @@
 pub mod held;
 pub mod reply;
 pub mod run;
+pub mod trace;

@@ -41,6 +41,19 @@ codeOf n =
     else if eqb n 9 then Disconnect
     else Unknown
 
+-- The message that a call carries: that of a call that sends nothing is ignored.
+abbrev pub carriedBy : Code → ℕ → ℕ
+carriedBy Unknown m = 0
+carriedBy TrySend m = m
+carriedBy TryReceive m = 0
+carriedBy Send m = m
+carriedBy Receive m = 0
+carriedBy Len m = 0
+carriedBy IsEmpty m = 0
+carriedBy IsFull m = 0
+carriedBy IsDisconnected m = 0
+carriedBy Disconnect m = 0
+
 -- A deadline other than ffffffff is for 03 and 04 alone.
 abbrev pub unlimited : Tick → Place → Start
 unlimited d p = if eqb (d .0) noDeadline then At p else None
@@ -61,7 +74,6 @@ startedArray Disconnect m d = unlimited d (Array array.Disconnect)
 abbrev pub firstSection : Offer → Limit → Place
 firstSection o l = Zero (First o l)
 
--- The message of a call that sends nothing is ignored.
 abbrev pub startedZero : Code → ℕ → Tick → Start
 startedZero Unknown m d = None
 startedZero TrySend m d = unlimited d (firstSection (offer.Send m) Try)

@@ -27,7 +27,7 @@ fn put_byte(out: &mut [u8], at: usize, value: u32) -> usize
 }
 
 /// The eight digits of a number.
-fn put_word(out: &mut [u8], at: usize, value: u32) -> usize
+pub fn put_word(out: &mut [u8], at: usize, value: u32) -> usize
     requires { ⌜ at + 8 ≤ length (now out) ⌝ }
     ensures { λ r. ⌜ Put at (wordText value) r (now (out .entry)) (now (out .exit)) ⌝ }
 {
@@ -38,7 +38,7 @@ fn put_word(out: &mut [u8], at: usize, value: u32) -> usize
 }
 
 /// The 0a that ends a line.
-fn put_end(out: &mut [u8], at: usize) -> usize
+pub fn put_end(out: &mut [u8], at: usize) -> usize
     requires { ⌜ at + 1 ≤ length (now out) ⌝ }
     ensures { λ r. ⌜ Put at endText r (now (out .entry)) (now (out .exit)) ⌝ }
 {

@@ -1,0 +1,72 @@
+-- What the invariant says of those that wait, and of those that are picked.
+use Prim.Native.Nat.{ℕ, _<_}
+use mathlib.Core.Path.{_≡_, sym, _∙_}
+use mathlib.Core.Bool.{true}
+use native.Mathlib.Omega.{arith}
+use Rattle.waker.specs.declared.context.Thread.{Thread}
+use Rattle.waker.specs.declared.context.Selected.the-variants as word
+use Rattle.waker.specs.declared.wakers.Side.{Side}
+use Rattle.channel.specs.Zero.{packetAt, withPacket}
+use Rattle.channel.specs.declared.answer.Tick.{Tick}
+use Rattle.channel.specs.declared.zero.Packet.{Packet}
+use Rattle.schedule.specs.Record.{placeOf}
+use Rattle.schedule.specs.History.{Moment}
+use Rattle.schedule.specs.FormWaits.{queuedAt, awaits, partnerOf, timesIn}
+use Rattle.schedule.specs.declared.form.waits.Partner.the-variants.{Of}
+use Rattle.schedule.specs.declared.record.Place.{Place}
+use Rattle.grown.proofs.Tests.{clash}
+use Rattle.grown.proofs.Orderly.{viewOn, Picks}
+use Rattle.grown.proofs.Places.{waiting-there, stands-queued, stands-waiting}
+use Rattle.grown.proofs.ZeroKept.{inside}
+use Rattle.grown.proofs.ZeroMemory.{packet-here}
+use Rattle.handover.specs.Meetings.{Past, wordAt, packetOf}
+use Rattle.handover.specs.Statement.{queueAt, Waits}
+use Rattle.handover.proofs.Inv.{Chosen, Waiter, AtPlace, Inv}
+use Rattle.handover.proofs.Sides.{Awaits, at-wait, at-ready, awaiting}
+
+module _ (M : Moment Past) (I : Inv M) where
+  -- Whom a call names is picked, and its mark not set.
+  pub named : (u : ℕ) (σ : Side) (v : Thread) → partnerOf (placeOf (M .now) u) ≡ Of σ v →
+      Picks (viewOn (M .now .zero) (M .now .threads)) u σ v
+  named = I .kept .orderly .picks
+
+  -- So its packet takes what is given to it.
+  pub given : (u : ℕ) (σ : Side) (v : Thread) → partnerOf (placeOf (M .now) u) ≡ Of σ v → (k : Packet) →
+      packetAt (withPacket (M .now .zero) v k) v ≡ k
+  given u σ v e k =
+      packet-here (M .now .zero) v k
+      (rw (I .kept .sound .packets) (inside (M .now) (I .kept) (v .0) (λ i. clash (sym (rw i at (named u σ v e .waits))))))
+
+  module _ (u : ℕ) (σ : Side) where
+    pub waiter : (d : Tick) → Waits (M .now) u σ d → Waiter M u σ
+    waiter d W = rw (W .word) at ((rw (W .place) at (I .self u)) .1)
+
+    -- A waiter stands in its side's queue,
+    pub queued : (d : Tick) → Waits (M .now) u σ d → timesIn u (queueAt (M .now) σ) ≡ 1
+    queued d W = I .kept .orderly .stands u σ ∙ rw (W .place, W .word) (stands-waiting σ d)
+
+    -- and whoever stands there with its word Waiting is a waiter.
+    pub waits-there : 0 < timesIn u (queueAt (M .now) σ) → wordAt (M .now) u ≡ word.Waiting → (d : Tick) × Waits (M .now) u σ d
+    waits-there l w =
+        go
+        (awaiting σ (placeOf (M .now) u)
+        (waiting-there σ (placeOf (M .now) u) (wordAt (M .now) u) (packetOf (M .now) u) stands w (I .kept .orderly .uses u)
+        .awaited))
+      where
+        stands : queuedAt σ (placeOf (M .now) u) ≡ true
+        stands = stands-queued σ (placeOf (M .now) u) (wordAt (M .now) u) (rw (← I .kept .orderly .stands u σ) l)
+
+        go : Awaits σ (placeOf (M .now) u) → (d : Tick) × Waits (M .now) u σ d
+        go (at-wait d e) = (d, record { place = e; word = w })
+        go (at-ready e) = absurd (clash (sym (rw e at stands)))
+
+-- From M to N, v is picked and at wait or ready-wait, whatever has become of its packet.
+module _ (M N : Moment Past) (v : ℕ) (σ : Side) (u m : ℕ) (C : Chosen N v σ u m 0) (picked : wordAt (N .now) v ≡ word.Picked)
+    (same : N .past .deadline v ≡ M .past .deadline v) where
+  pub picked-at : (p : Place) → awaits σ p ≡ true → AtPlace M v p → AtPlace N v p
+  picked-at p a h = go (awaiting σ p a)
+    where
+      go : Awaits σ p → AtPlace N v p
+      go (at-wait d e) = rw e ((rw e at h) .0 ∙ sym same, rw picked (u, m, C))
+      go (at-ready e) =
+          rw e (u, m, record { pair = C .pair; own = C .own; since = λ r. omega (arith, C .since r); message = C .message })

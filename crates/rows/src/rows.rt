@@ -1,0 +1,142 @@
+//! 01's bench book, row by row. Fields 2 and 3 are mark and lap, 7 head, 8 tail, 76 on the stamps; a place's code is docs/TRACE.md's.
+use crate::run::NONE;
+use crate::run::Run;
+use schedule::record::Record;
+
+/// Rows 1 to 4: mark and lap of a capacity.
+pub fn shape(capacity: u64, mark: u64, lap: u64) -> Run {
+    Run::made(Record::make_array(capacity, 1))
+        .shows(2, mark)
+        .shows(3, lap)
+}
+
+/// Row 5: capacity 1 after one send: tail 4, stamp 1; a second `try_send` is Full by A, B, D.
+pub fn full() -> Run {
+    let one = Run::made(Record::make_array(1, 2))
+        .sends(0, 42)
+        .shows(8, 4)
+        .shows(76, 1);
+    let second = one.begins(1, 1, 7, NONE)
+        .stands(1, 0x1a)
+        .steps(1)
+        .stands(1, 0x1b)
+        .steps(1)
+        .stands(1, 0x1d);
+    second.steps(1).takes(1, 3, 7)
+}
+
+/// Row 6: then one receive: head 4, stamp 4.
+pub fn received() -> Run {
+    full().receives(0, 42).shows(7, 4).shows(76, 4)
+}
+
+/// Row 7: capacity 3, three sends: tail 8, `len` 3.
+pub fn three() -> Run {
+    let sent = Run::made(Record::make_array(3, 1))
+        .sends(0, 1)
+        .sends(0, 2)
+        .sends(0, 3);
+    sent.shows(8, 8).counts(0, 3)
+}
+
+/// Row 8: capacity 3, four sends and two receives, never above 3: tail 9, head 2, `len` 2.
+pub fn four() -> Run {
+    let two = Run::made(Record::make_array(3, 1))
+        .sends(0, 1)
+        .sends(0, 2)
+        .receives(0, 1);
+    let all = two.sends(0, 3).sends(0, 4).receives(0, 2);
+    all.shows(8, 9).shows(7, 2).counts(0, 2)
+}
+
+/// A sender stopped after C.
+fn stalled(capacity: u64) -> Run {
+    Run::made(Record::make_array(capacity, 2))
+        .begins(0, 1, 42, NONE)
+        .steps(0)
+        .steps(0)
+        .steps(0)
+        .stands(0, 0x1e)
+}
+
+/// Row 9: capacity 2: `len` 1, and another thread's `try_recv` cycles A, B, D.
+pub fn receive_cycles() -> Run {
+    let begun = stalled(2)
+        .counts(1, 1)
+        .begins(1, 2, 0, NONE)
+        .stands(1, 0x2a);
+    let once = begun
+        .steps(1)
+        .stands(1, 0x2b)
+        .steps(1)
+        .stands(1, 0x2d)
+        .steps(1)
+        .stands(1, 0x2a);
+    once.steps(1)
+        .stands(1, 0x2b)
+        .steps(1)
+        .stands(1, 0x2d)
+        .steps(1)
+        .stands(1, 0x2a)
+}
+
+/// Row 10: capacity 1, same: a second `try_send` cycles A, B.
+pub fn send_cycles() -> Run {
+    let begun = stalled(1).begins(1, 1, 7, NONE).stands(1, 0x1a);
+    let once = begun.steps(1).stands(1, 0x1b).steps(1).stands(1, 0x1a);
+    once.steps(1).stands(1, 0x1b).steps(1).stands(1, 0x1a)
+}
+
+/// Row 11: rendezvous, two receivers waiting: a send picks the older.
+pub fn older() -> Run {
+    let waiting = Run::made(Record::make_zero(3))
+        .begins(2, 4, 0, NONE)
+        .steps(2)
+        .begins(1, 4, 0, NONE)
+        .steps(1);
+    let sent = waiting
+        .begins(0, 3, 42, NONE)
+        .steps(0)
+        .stands(0, 0x31)
+        .steps(0)
+        .steps(0)
+        .takes(0, 1, 0);
+    sent.steps(2).steps(2).takes(2, 2, 42).stands(1, 0x43)
+}
+
+/// Row 12: deadline 0 at clock 0, nobody opposite: a `recv` joins, is Aborted at its first poll, answers Timeout at its next step;
+pub fn late() -> Run {
+    let joined = Run::made(Record::make_zero(2))
+        .begins(0, 4, 0, 0)
+        .steps(0)
+        .stands(0, 0x43);
+    joined
+        .steps(0)
+        .stands(0, 0x45)
+        .shows(13, 2)
+        .steps(0)
+        .takes(0, 6, 0)
+}
+
+/// picked before that poll, it receives.
+pub fn picked() -> Run {
+    let joined = Run::made(Record::make_zero(2))
+        .begins(0, 4, 0, 0)
+        .steps(0)
+        .begins(1, 1, 42, NONE);
+    let sent = joined.steps(1).steps(1).steps(1).takes(1, 1, 0);
+    sent.steps(0).steps(0).takes(0, 2, 42)
+}
+
+/// Row 13: capacity 0 and 65: refusal 2.
+pub fn no_array(capacity: u64) -> Run {
+    Run::not_made(Record::make_array(capacity, 1), 2)
+}
+
+/// Row 14: clock fffffffe plus 0 is accepted, plus 1 is refusal 9.
+pub fn last_tick() -> Run {
+    Run::made(Record::make_zero(2))
+        .advances(0xffff_fffe)
+        .advances(0)
+        .stays(1, 9)
+}

@@ -63,7 +63,7 @@ const BREAKS: [(&str, &str, &str); 10] = [
     ("zero", "} else if inner.is_disconnected {\n            Err(TrySendError::Disconnected(msg))", "} else if false {\n            Err(TrySendError::Disconnected(msg))"),
     ("context", "if now < end {", "if now <= end {"),
     // A word that changes from anything, not only from Waiting.
-    ("context", "Selected::Waiting.into(),\n                select.into(),", "self.inner.select.load(Ordering::Acquire),\n                select.into(),"),
+    ("context", "Selected::Waiting.into(),\n                select.into(),", "self.inner.select.peek(),\n                select.into(),"),
 ];
 
 fn folder() -> PathBuf {

@@ -25,7 +25,8 @@ fn field_differs(seen: &Seen, line: &[u8]) -> Option<String> {
     let told = |i: usize| u64::from_str_radix(std::str::from_utf8(&line[16 * i..16 * i + 16]).ok()?, 16).ok();
     let differs = |i: &usize| seen[*i].is_some() && seen[*i] != told(*i);
     let i = (0..FIELDS).find(differs)?;
-    Some(format!("{}: the release {:x}, the program {:x?}", field_name(i), seen[i].unwrap(), told(i)))
+    let said = told(i).map_or("no number".into(), |n| format!("{n:x}"));
+    Some(format!("{}: the release {:x}, the program {said}", field_name(i), seen[i].unwrap()))
 }
 
 /// What differs first, and at which frame.

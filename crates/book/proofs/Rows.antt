@@ -6,11 +6,11 @@ use Rattle.waker.specs.Wakers.{turnedAll}
 use Rattle.channel.specs.Position.{doubledTo, markOf, successor, unmarked}
 use Rattle.channel.specs.Array.{stampsFrom}
 use Rattle.channel.specs.ArraySteps.{lengthOf}
-use Rattle.schedule.specs.Tests.{allBelow}
+use Rattle.places.specs.Tests.{allBelow}
 use Rattle.schedule.specs.Making.{madeArray, madeZero}
-use Rattle.schedule.specs.Begin.{codeOf}
-use Rattle.schedule.specs.FormSaved.{shapeInForm, tailInForm, wordInForm, slotInForm}
-use Rattle.schedule.specs.FormWaits.{standsOn, timesIn, entryInForm, queueInForm}
+use Rattle.places.specs.Begin.{codeOf}
+use Rattle.places.specs.FormSaved.{shapeInForm, tailInForm, wordInForm, slotInForm}
+use Rattle.places.specs.FormWaits.{standsOn, timesIn, entryInForm, queueInForm}
 use Rattle.schedule.specs.Form.{boundsHold, arrayInForm, zeroInForm, slotsInForm, queuesInForm, standsInForm, threadInForm, threadsInForm, inForm}
 use Rattle.schedule.specs.Calls.{begun, begunInForm, stepped, steppedInForm, advanced, advancedInForm, taken, takenInForm}
 use Rattle.schedule.specs.History.{after}

@@ -13,12 +13,12 @@ use Rattle.channel.specs.declared.array.call.ReceivePlace.the-variants as recei
 use Rattle.channel.specs.declared.array.call.ArrayCall.the-variants.{Send, Receive, Len, IsEmpty, IsFull, IsDisconnected, Disconnect}
 use Rattle.schedule.specs.Record.{placeOf}
 use Rattle.schedule.specs.History.{Act, actOn, after, steps}
-use Rattle.schedule.specs.declared.record.Place.{Place}
-use Rattle.schedule.specs.declared.record.Place.the-variants.{Idle, Array, Zero, Done}
+use Rattle.places.specs.declared.place.Place.{Place}
+use Rattle.places.specs.declared.place.Place.the-variants.{Idle, Array, Zero, Done}
 use Rattle.schedule.specs.declared.record.Record.{Record}
 use Rattle.schedule.specs.declared.record.Replied.{Replied}
-use Rattle.schedule.specs.declared.refusal.Reply.{Reply}
-use Rattle.schedule.specs.declared.refusal.Reply.the-variants as reply
+use Rattle.places.specs.declared.refusal.Reply.{Reply}
+use Rattle.places.specs.declared.refusal.Reply.the-variants as reply
 
 -- 01's letters for the places of an array's send and receive.
 pub data Letter : Type 0 where

@@ -12,11 +12,11 @@ use Rattle.channel.specs.Answer.{ticks}
 use Rattle.channel.specs.declared.answer.Answer.{Answer}
 use Rattle.channel.specs.declared.answer.Answer.the-variants.{Sent, Received, Full, Timeout, Number}
 use Rattle.channel.specs.declared.zero.call.ZeroCall.the-variants.{Put, ReadyWait, Leave}
-use Rattle.schedule.specs.Begin.{noDeadline}
+use Rattle.places.specs.Begin.{noDeadline}
 use Rattle.schedule.specs.Making.{madeArray, madeZero}
 use Rattle.schedule.specs.History.{Act, begins, steps, takes}
-use Rattle.schedule.specs.declared.record.Place.{Place}
-use Rattle.schedule.specs.declared.record.Place.the-variants.{Zero, Done}
+use Rattle.places.specs.declared.place.Place.{Place}
+use Rattle.places.specs.declared.place.Place.the-variants.{Zero, Done}
 use Rattle.schedule.specs.declared.record.Replied.{Replied}
 use Rattle.book.specs.Shows.{Row, Shows, Asks, Sight, Letter, A, B, C, D, promised, witnessed}
 use Rattle.book.specs.Shows as ask

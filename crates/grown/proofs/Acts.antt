@@ -15,19 +15,19 @@ use Rattle.channel.specs.declared.answer.Answer.{Answer}
 use Rattle.channel.specs.declared.array.call.ArrayCall.{ArrayCall}
 use Rattle.channel.specs.declared.zero.call.ZeroCall.{ZeroCall}
 use Rattle.schedule.specs.Record.{placeOf, withThread, withClock, afterArray, afterZero, replied, refusedWith, acceptedAs}
-use Rattle.schedule.specs.Begin.{started}
+use Rattle.places.specs.Begin.{started}
 use Rattle.schedule.specs.Form.{inForm, stepLimit, clockLimit}
 use Rattle.schedule.specs.Calls.{formed, threaded, begun, begunInForm, begunAt, startedOn, stepped, steppedInForm, steppedAt, advanced, advancedInForm, taken, takenInForm, takenAt}
 use Rattle.schedule.specs.History.{Act, begins, steps, advances, takes, actOn, after, Moment, remembered, reached, next}
-use Rattle.schedule.specs.declared.begin.Start.{Start}
-use Rattle.schedule.specs.declared.begin.Start.the-variants.{None, At}
-use Rattle.schedule.specs.declared.record.Place.{Place}
-use Rattle.schedule.specs.declared.record.Place.the-variants.{Idle, Array, Zero, Done}
+use Rattle.places.specs.declared.begin.Start.{Start}
+use Rattle.places.specs.declared.begin.Start.the-variants.{None, At}
+use Rattle.places.specs.declared.place.Place.{Place}
+use Rattle.places.specs.declared.place.Place.the-variants.{Idle, Array, Zero, Done}
 use Rattle.schedule.specs.declared.record.Record.{Record}
 use Rattle.schedule.specs.declared.record.Replied.{Replied}
-use Rattle.schedule.specs.declared.refusal.Refusal.{Refusal}
-use Rattle.schedule.specs.declared.refusal.Refusal.the-variants.{OutOfForm, NoSuchThread, NotIdle, NotRunning, UnknownCall, StepLimit, ClockLimit, NoAnswer}
-use Rattle.schedule.specs.declared.refusal.Reply.the-variants.{Took}
+use Rattle.places.specs.declared.refusal.Refusal.{Refusal}
+use Rattle.places.specs.declared.refusal.Refusal.the-variants.{OutOfForm, NoSuchThread, NotIdle, NotRunning, UnknownCall, StepLimit, ClockLimit, NoAnswer}
+use Rattle.places.specs.declared.refusal.Reply.the-variants.{Took}
 
 -- P holds of a refusal, which changes nothing, and of each accepted change.
 pub record Cases (r : Record) (P : Act → Replied → Type 0) : Type 0 where

@@ -29,16 +29,16 @@ use Rattle.channel.specs.declared.array.call.IsFullPlace.the-variants as is-ful
 use Rattle.channel.specs.declared.array.call.ArrayCall.{ArrayCall}
 use Rattle.channel.specs.declared.array.call.ArrayCall.the-variants.{Send, Receive, Len, IsEmpty, IsFull, IsDisconnected, Disconnect}
 use Rattle.channel.proofs.PositionLaws.{sized}
-use Rattle.schedule.specs.Tests.{allBelow}
+use Rattle.places.specs.Tests.{allBelow}
 use Rattle.schedule.specs.Record.{placeOf}
-use Rattle.schedule.specs.FormSaved.{shapeInForm, tailInForm, wordInForm, slotInForm, sendInForm, receiveInForm, lenInForm, isEmptyInForm, isFullInForm, savedInForm}
-use Rattle.schedule.specs.FormWaits.{waitInForm, standsOn, timesIn, queueInForm, entryInForm}
+use Rattle.places.specs.FormSaved.{shapeInForm, tailInForm, wordInForm, slotInForm, sendInForm, receiveInForm, lenInForm, isEmptyInForm, isFullInForm, savedInForm}
+use Rattle.places.specs.FormWaits.{waitInForm, standsOn, timesIn, queueInForm, entryInForm}
 use Rattle.schedule.specs.Form.{InForm, inForm, arrayInForm, slotsInForm, queuesInForm, placeInForm, partnerInForm, standsInForm, threadInForm, threadsInForm}
-use Rattle.schedule.specs.declared.record.Flavour.the-variants as flavour
-use Rattle.schedule.specs.declared.record.Place.{Place}
-use Rattle.schedule.specs.declared.record.Place.the-variants.{Idle, Array, Zero, Done}
+use Rattle.places.specs.declared.place.Flavour.the-variants as flavour
+use Rattle.places.specs.declared.place.Place.{Place}
+use Rattle.places.specs.declared.place.Place.the-variants.{Idle, Array, Zero, Done}
 use Rattle.schedule.specs.declared.record.Record.{Record}
-use Rattle.schedule.proofs.TestLaws.{all-below}
+use Rattle.places.proofs.TestLaws.{all-below}
 use Rattle.grown.proofs.Tests.{passes, fails}
 use Rattle.grown.proofs.Lists.{all-one}
 use Rattle.grown.proofs.Words.{Clear, Tailed, Stamped, clear-index, clear-unmarked, stamped-unmarked, tailed-index, tailed-low}

@@ -15,7 +15,7 @@ use Rattle.schedule.specs.Record.{threadAt, acceptedAs}
 use Rattle.schedule.specs.Making.{madeArray, freshArrayRecord}
 use Rattle.schedule.specs.Form.{InForm}
 use Rattle.schedule.specs.History.{Act, after}
-use Rattle.schedule.specs.declared.record.Place.the-variants.{Idle}
+use Rattle.places.specs.declared.place.Place.the-variants.{Idle}
 use Rattle.schedule.specs.declared.record.Record.{Record}
 use Rattle.grown.proofs.Lists.{all-one, past-all}
 use Rattle.grown.proofs.Acts.{throughout}

@@ -19,9 +19,9 @@ use Rattle.channel.specs.declared.array.call.IsFullPlace.the-variants as is-ful
 use Rattle.channel.specs.declared.array.call.ArrayCall.{ArrayCall}
 use Rattle.channel.specs.declared.array.call.ArrayCall.the-variants.{Send, Receive, Len, IsEmpty, IsFull, IsDisconnected, Disconnect}
 use Rattle.schedule.specs.Record.{placeOf}
-use Rattle.schedule.specs.declared.record.Flavour.the-variants as flavour
-use Rattle.schedule.specs.declared.record.Place.{Place}
-use Rattle.schedule.specs.declared.record.Place.the-variants.{Idle, Array, Zero, Done}
+use Rattle.places.specs.declared.place.Flavour.the-variants as flavour
+use Rattle.places.specs.declared.place.Place.{Place}
+use Rattle.places.specs.declared.place.Place.the-variants.{Idle, Array, Zero, Done}
 use Rattle.schedule.specs.declared.record.Record.{Record}
 use Rattle.grown.proofs.Words.{Clear, Tailed, Stamped}
 use Rattle.grown.proofs.Bounds.{Bounds}

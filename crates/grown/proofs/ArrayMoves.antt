@@ -10,13 +10,13 @@ use Rattle.channel.specs.declared.position.Shape.{Shape}
 use Rattle.channel.specs.declared.array.call.ArrayCall.{ArrayCall}
 use Rattle.channel.proofs.PositionLaws.{sized}
 use Rattle.schedule.specs.Record.{threadAt, placeOf, placeAfterArray, withThread, afterArray}
-use Rattle.schedule.specs.Begin.{codeOf, unlimited, startedArray}
+use Rattle.places.specs.Begin.{codeOf, unlimited, startedArray}
 use Rattle.schedule.specs.Form.{stepLimit}
-use Rattle.schedule.specs.declared.begin.Code.{Code}
-use Rattle.schedule.specs.declared.begin.Code.the-variants.{Unknown, TrySend, TryReceive, Send, Receive, Len, IsEmpty, IsFull, IsDisconnected, Disconnect}
-use Rattle.schedule.specs.declared.begin.Start.the-variants.{At}
-use Rattle.schedule.specs.declared.record.Place.{Place}
-use Rattle.schedule.specs.declared.record.Place.the-variants.{Idle, Array}
+use Rattle.places.specs.declared.begin.Code.{Code}
+use Rattle.places.specs.declared.begin.Code.the-variants.{Unknown, TrySend, TryReceive, Send, Receive, Len, IsEmpty, IsFull, IsDisconnected, Disconnect}
+use Rattle.places.specs.declared.begin.Start.the-variants.{At}
+use Rattle.places.specs.declared.place.Place.{Place}
+use Rattle.places.specs.declared.place.Place.the-variants.{Idle, Array}
 use Rattle.schedule.specs.declared.record.ThreadRecord.{ThreadRecord}
 use Rattle.schedule.specs.declared.record.Record.{Record}
 use Rattle.grown.proofs.Lists.{at-set}

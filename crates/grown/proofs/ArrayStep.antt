@@ -28,8 +28,8 @@ use Rattle.channel.specs.declared.array.call.IsFullPlace.the-variants as is-ful
 use Rattle.channel.specs.declared.array.call.ArrayCall.{ArrayCall}
 use Rattle.channel.specs.declared.array.call.ArrayCall.the-variants.{Send, Receive, Len, IsEmpty, IsFull, IsDisconnected, Disconnect}
 use Rattle.schedule.specs.Record.{placeAfterArray}
-use Rattle.schedule.specs.declared.record.Place.{Place}
-use Rattle.schedule.specs.declared.record.Place.the-variants.{Idle, Array, Zero, Done}
+use Rattle.places.specs.declared.place.Place.{Place}
+use Rattle.places.specs.declared.place.Place.the-variants.{Idle, Array, Zero, Done}
 use Rattle.grown.proofs.Lists.{at-set}
 use Rattle.grown.proofs.Words.{Clear, Tailed, plain, marked, Stamped, clear-index, tailed-clear, clear-next, sent-stamp, received-stamp, clear-later, tailed-later, stamped-later}
 use Rattle.grown.proofs.ArrayKept.{SendSaved, ReceiveSaved, LenSaved, IsEmptySaved, IsFullSaved, CallSaved, PlaceSaved, Memories}

@@ -10,8 +10,8 @@ use Rattle.waker.specs.Context.{threads}
 use Rattle.channel.specs.Answer.{ticks}
 use Rattle.schedule.specs.Record.{threadAt, placeOf, withThread, withClock}
 use Rattle.schedule.specs.Form.{boundsHold, counted, isIdle, stepLimit, clockLimit}
-use Rattle.schedule.specs.declared.record.Place.{Place}
-use Rattle.schedule.specs.declared.record.Place.the-variants.{Idle}
+use Rattle.places.specs.declared.place.Place.{Place}
+use Rattle.places.specs.declared.place.Place.the-variants.{Idle}
 use Rattle.schedule.specs.declared.record.ThreadRecord.{ThreadRecord}
 use Rattle.schedule.specs.declared.record.Record.{Record}
 use Rattle.grown.proofs.Tests.{passes, fails}

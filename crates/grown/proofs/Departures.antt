@@ -21,8 +21,8 @@ use Rattle.channel.specs.declared.zero.Zero.{Zero as Memory}
 use Rattle.channel.specs.declared.zero.outcome.ZeroEffect.the-variants as effect
 use Rattle.channel.specs.declared.zero.outcome.ZeroNext.the-variants.{Goes, Ends}
 use Rattle.channel.specs.declared.zero.call.ZeroCall.the-variants.{Wait, ReadyWait, Leave}
-use Rattle.schedule.specs.FormWaits.{isPicked, mayLeave, timesIn}
-use Rattle.schedule.specs.declared.record.Place.the-variants.{Zero, Done}
+use Rattle.places.specs.FormWaits.{isPicked, mayLeave, timesIn}
+use Rattle.places.specs.declared.place.Place.the-variants.{Zero, Done}
 use Rattle.schedule.specs.declared.record.ThreadRecord.{ThreadRecord}
 use Rattle.grown.proofs.Tests.{clash}
 use Rattle.waker.proofs.WakerLaws.{without-short}

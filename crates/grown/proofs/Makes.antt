@@ -12,9 +12,9 @@ use Rattle.schedule.specs.Record.{refusedWith, acceptedAs}
 use Rattle.schedule.specs.Making.{madeArray, madeFor, zeroRecord, freshArrayRecord}
 use Rattle.schedule.specs.declared.record.Record.{Record}
 use Rattle.schedule.specs.declared.record.Replied.{Replied}
-use Rattle.schedule.specs.declared.refusal.Refusal.{Refusal}
-use Rattle.schedule.specs.declared.refusal.Refusal.the-variants.{Capacity, ThreadCount}
-use Rattle.schedule.specs.declared.refusal.Reply.the-variants as reply
+use Rattle.places.specs.declared.refusal.Refusal.{Refusal}
+use Rattle.places.specs.declared.refusal.Refusal.the-variants.{Capacity, ThreadCount}
+use Rattle.places.specs.declared.refusal.Reply.the-variants as reply
 
 pub refused-not : (x r : Record) (n : Refusal) → refusedWith x n ≡ acceptedAs r → ⊥
 refused-not x r n e =

@@ -29,12 +29,12 @@ use Rattle.channel.specs.declared.zero.call.Offer.the-variants.{Send, Receive}
 use Rattle.channel.specs.declared.zero.call.Limit.{Limit}
 use Rattle.channel.specs.declared.zero.call.Limit.the-variants.{Until}
 use Rattle.channel.specs.declared.zero.call.ZeroCall.the-variants.{First, Wait}
-use Rattle.schedule.specs.FormWaits.{queuedAt, standsOn, partnerOf, timesIn}
-use Rattle.schedule.specs.declared.form.waits.Partner.the-variants.{Of}
-use Rattle.schedule.specs.declared.record.Place.{Place}
-use Rattle.schedule.specs.declared.record.Place.the-variants.{Zero}
+use Rattle.places.specs.FormWaits.{queuedAt, standsOn, partnerOf, timesIn}
+use Rattle.places.specs.declared.waits.Partner.the-variants.{Of}
+use Rattle.places.specs.declared.place.Place.{Place}
+use Rattle.places.specs.declared.place.Place.the-variants.{Zero}
 use Rattle.schedule.specs.declared.record.ThreadRecord.{ThreadRecord}
-use Rattle.schedule.proofs.TimesLaws.{room}
+use Rattle.places.proofs.TimesLaws.{room}
 use Rattle.grown.proofs.Tests.{clash}
 use Rattle.grown.proofs.Lists.{at-set}
 use Rattle.waker.proofs.WakerLaws.{without-short}

@@ -18,10 +18,10 @@ use Rattle.channel.specs.declared.zero.Zero.{Zero as Memory}
 use Rattle.channel.specs.declared.zero.call.ZeroCall.{ZeroCall}
 use Rattle.channel.specs.declared.zero.call.ZeroCall.the-variants.{First, Put, PutReady, Take, TakeReady, Wait, ReadyWait, Leave, Ask}
 use Rattle.schedule.specs.Record.{threadAt}
-use Rattle.schedule.specs.FormWaits.{isPicked, mayLeave, standsOn, awaits, partnerOf, timesIn}
-use Rattle.schedule.specs.declared.form.waits.Partner.the-variants.{Of}
-use Rattle.schedule.specs.declared.record.Place.{Place}
-use Rattle.schedule.specs.declared.record.Place.the-variants.{Idle, Array, Zero, Done}
+use Rattle.places.specs.FormWaits.{isPicked, mayLeave, standsOn, awaits, partnerOf, timesIn}
+use Rattle.places.specs.declared.waits.Partner.the-variants.{Of}
+use Rattle.places.specs.declared.place.Place.{Place}
+use Rattle.places.specs.declared.place.Place.the-variants.{Idle, Array, Zero, Done}
 use Rattle.schedule.specs.declared.record.ThreadRecord.{ThreadRecord}
 
 -- What a thread that doesn't wait has for word and packet.

@@ -13,10 +13,10 @@ use Rattle.waker.specs.declared.wakers.Side.the-variants.{Sender, Receiver}
 use Rattle.channel.specs.declared.answer.Tick.{Tick}
 use Rattle.channel.specs.declared.zero.Packet.{Packet}
 use Rattle.channel.specs.declared.zero.call.ZeroCall.the-variants.{First, Put, PutReady, Take, TakeReady, Wait, ReadyWait, Leave, Ask}
-use Rattle.schedule.specs.FormWaits.{isPicked, sameSide, mayLeave, queuedAt, standsOn, awaits, partnerOf}
-use Rattle.schedule.specs.declared.form.waits.Partner.the-variants.{None, Of}
-use Rattle.schedule.specs.declared.record.Place.{Place}
-use Rattle.schedule.specs.declared.record.Place.the-variants.{Idle, Array, Zero, Done}
+use Rattle.places.specs.FormWaits.{isPicked, sameSide, mayLeave, queuedAt, standsOn, awaits, partnerOf}
+use Rattle.places.specs.declared.waits.Partner.the-variants.{None, Of}
+use Rattle.places.specs.declared.place.Place.{Place}
+use Rattle.places.specs.declared.place.Place.the-variants.{Idle, Array, Zero, Done}
 use Rattle.grown.proofs.Tests.{clash}
 use Rattle.grown.proofs.Orderly.{Clean, Uses}
 

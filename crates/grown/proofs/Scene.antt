@@ -19,10 +19,10 @@ use Rattle.channel.specs.declared.zero.Packet.{Packet}
 use Rattle.channel.specs.declared.zero.Zero.{Zero as Memory}
 use Rattle.channel.specs.declared.zero.outcome.ZeroOutcome.{ZeroOutcome}
 use Rattle.schedule.specs.Record.{threadAt, placeAfterZero}
-use Rattle.schedule.specs.FormWaits.{queuedAt, standsOn, awaits, partnerOf, timesIn}
-use Rattle.schedule.specs.declared.form.waits.Partner.the-variants.{None}
-use Rattle.schedule.specs.declared.record.Place.{Place}
-use Rattle.schedule.specs.declared.record.Place.the-variants.{Idle}
+use Rattle.places.specs.FormWaits.{queuedAt, standsOn, awaits, partnerOf, timesIn}
+use Rattle.places.specs.declared.waits.Partner.the-variants.{None}
+use Rattle.places.specs.declared.place.Place.{Place}
+use Rattle.places.specs.declared.place.Place.the-variants.{Idle}
 use Rattle.schedule.specs.declared.record.ThreadRecord.{ThreadRecord}
 use Rattle.grown.proofs.Tests.{clash}
 use Rattle.grown.proofs.Orderly.{Uses, View, viewOn, Orderly}

@@ -6,9 +6,9 @@ use native.Mathlib.Omega.{arith}
 use lib.Dec.{eqb}
 use Rattle.waker.specs.Choice.{if_then_else_}
 use Rattle.channel.specs.declared.answer.Tick.{Tick}
-use Rattle.schedule.specs.Begin.{unlimited, noDeadline}
-use Rattle.schedule.specs.declared.begin.Start.the-variants.{None, At}
-use Rattle.schedule.specs.declared.record.Place.{Place}
+use Rattle.places.specs.Begin.{unlimited, noDeadline}
+use Rattle.places.specs.declared.begin.Start.the-variants.{None, At}
+use Rattle.places.specs.declared.place.Place.{Place}
 
 pub at-place : (q p : Place) → At q ≡ At p → q ≡ p
 at-place q p e = cc

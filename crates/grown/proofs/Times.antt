@@ -16,7 +16,7 @@ use Rattle.waker.specs.declared.context.Context.{Context}
 use Rattle.waker.specs.declared.context.Selected.{Selected}
 use Rattle.waker.specs.declared.context.Selected.the-variants as word
 use Rattle.waker.specs.declared.waker.Found.the-variants.{At}
-use Rattle.schedule.specs.FormWaits.{timesIn}
+use Rattle.places.specs.FormWaits.{timesIn}
 use Rattle.grown.proofs.Tests.{clash}
 
 pub times-joined : (t : Thread) (l : List Thread) → timesIn (t .0) (l ++ (t ∷ [])) ≡ timesIn (t .0) l + 1

@@ -25,16 +25,16 @@ use Rattle.channel.specs.declared.zero.call.ZeroCall.{ZeroCall}
 use Rattle.channel.specs.declared.zero.call.ZeroCall.the-variants.{First, Put, PutReady, Take, TakeReady, Wait, ReadyWait, Leave, Ask}
 use Rattle.schedule.specs.Record.{placeOf}
 use Rattle.schedule.specs.Making.{noShape}
-use Rattle.schedule.specs.FormSaved.{slotInForm}
-use Rattle.schedule.specs.FormWaits.{unused, zeroWaitInForm, waitInForm, awaits, partnerOf, queueInForm, entryInForm}
+use Rattle.places.specs.FormSaved.{slotInForm}
+use Rattle.places.specs.FormWaits.{unused, zeroWaitInForm, waitInForm, awaits, partnerOf, queueInForm, entryInForm}
 use Rattle.schedule.specs.Form.{InForm, inForm, zeroInForm, slotsInForm, queuesInForm, placeInForm, namedInForm, standsInForm, threadInForm, threadsInForm}
-use Rattle.schedule.specs.declared.form.waits.Partner.{Partner}
-use Rattle.schedule.specs.declared.form.waits.Partner.the-variants.{None, Of}
-use Rattle.schedule.specs.declared.record.Flavour.the-variants as flavour
-use Rattle.schedule.specs.declared.record.Place.{Place}
-use Rattle.schedule.specs.declared.record.Place.the-variants.{Idle, Array, Zero, Done}
+use Rattle.places.specs.declared.waits.Partner.{Partner}
+use Rattle.places.specs.declared.waits.Partner.the-variants.{None, Of}
+use Rattle.places.specs.declared.place.Flavour.the-variants as flavour
+use Rattle.places.specs.declared.place.Place.{Place}
+use Rattle.places.specs.declared.place.Place.the-variants.{Idle, Array, Zero, Done}
 use Rattle.schedule.specs.declared.record.Record.{Record}
-use Rattle.schedule.proofs.TestLaws.{all-below}
+use Rattle.places.proofs.TestLaws.{all-below}
 use Rattle.grown.proofs.Tests.{clash, passes, fails}
 use Rattle.grown.proofs.Lists.{all-one, past-all}
 use Rattle.grown.proofs.Bounds.{bounds-hold, counted-form}

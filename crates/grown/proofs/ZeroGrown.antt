@@ -14,11 +14,11 @@ use Rattle.waker.proofs.WakerLaws.{entries-queueOf}
 use Rattle.channel.specs.Zero.{noPacket, freshZero}
 use Rattle.schedule.specs.Record.{threadAt, placeOf, acceptedAs}
 use Rattle.schedule.specs.Making.{madeZero, freshZeroRecord}
-use Rattle.schedule.specs.FormWaits.{partnerOf, timesIn}
+use Rattle.places.specs.FormWaits.{partnerOf, timesIn}
 use Rattle.schedule.specs.Form.{InForm}
 use Rattle.schedule.specs.History.{Act, after}
-use Rattle.schedule.specs.declared.form.waits.Partner.the-variants.{Of}
-use Rattle.schedule.specs.declared.record.Place.the-variants.{Idle}
+use Rattle.places.specs.declared.waits.Partner.the-variants.{Of}
+use Rattle.places.specs.declared.place.Place.the-variants.{Idle}
 use Rattle.schedule.specs.declared.record.Record.{Record}
 use Rattle.grown.proofs.Lists.{all-one}
 use Rattle.grown.proofs.Acts.{throughout}

@@ -13,9 +13,9 @@ use Rattle.channel.specs.Array.{freshArray}
 use Rattle.channel.specs.declared.zero.Zero.{Zero as Memory}
 use Rattle.schedule.specs.Record.{placeOf}
 use Rattle.schedule.specs.Making.{noShape}
-use Rattle.schedule.specs.FormWaits.{timesIn}
-use Rattle.schedule.specs.declared.record.Flavour.the-variants as flavour
-use Rattle.schedule.specs.declared.record.Place.the-variants.{Idle}
+use Rattle.places.specs.FormWaits.{timesIn}
+use Rattle.places.specs.declared.place.Flavour.the-variants as flavour
+use Rattle.places.specs.declared.place.Place.the-variants.{Idle}
 use Rattle.schedule.specs.declared.record.Record.{Record}
 use Rattle.grown.proofs.Bounds.{Bounds}
 use Rattle.grown.proofs.Orderly.{viewOn, Orderly}

@@ -18,15 +18,15 @@ use Rattle.channel.specs.declared.zero.call.Question.{Question}
 use Rattle.channel.specs.declared.zero.call.ZeroCall.{ZeroCall}
 use Rattle.channel.specs.declared.zero.call.ZeroCall.the-variants.{First, Ask}
 use Rattle.schedule.specs.Record.{threadAt, placeOf, withThread, afterZero}
-use Rattle.schedule.specs.Begin.{codeOf, unlimited, startedZero}
+use Rattle.places.specs.Begin.{codeOf, unlimited, startedZero}
 use Rattle.schedule.specs.Form.{stepLimit}
-use Rattle.schedule.specs.FormWaits.{queuedAt, awaits, partnerOf}
-use Rattle.schedule.specs.declared.begin.Code.{Code}
-use Rattle.schedule.specs.declared.begin.Code.the-variants.{Unknown, TrySend, TryReceive, Send, Receive, Len, IsEmpty, IsFull, IsDisconnected, Disconnect}
-use Rattle.schedule.specs.declared.begin.Start.the-variants.{At}
-use Rattle.schedule.specs.declared.form.waits.Partner.the-variants.{None}
-use Rattle.schedule.specs.declared.record.Place.{Place}
-use Rattle.schedule.specs.declared.record.Place.the-variants.{Idle, Zero, Done}
+use Rattle.places.specs.FormWaits.{queuedAt, awaits, partnerOf}
+use Rattle.places.specs.declared.begin.Code.{Code}
+use Rattle.places.specs.declared.begin.Code.the-variants.{Unknown, TrySend, TryReceive, Send, Receive, Len, IsEmpty, IsFull, IsDisconnected, Disconnect}
+use Rattle.places.specs.declared.begin.Start.the-variants.{At}
+use Rattle.places.specs.declared.waits.Partner.the-variants.{None}
+use Rattle.places.specs.declared.place.Place.{Place}
+use Rattle.places.specs.declared.place.Place.the-variants.{Idle, Zero, Done}
 use Rattle.schedule.specs.declared.record.Record.{Record}
 use Rattle.grown.proofs.Acts.{Moves}
 use Rattle.grown.proofs.Starts.{at-place, never, begun-at}

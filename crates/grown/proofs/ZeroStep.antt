@@ -28,7 +28,7 @@ use Rattle.channel.specs.declared.zero.call.ZeroCall.{ZeroCall}
 use Rattle.channel.specs.declared.zero.call.ZeroCall.the-variants.{First, Put, PutReady, Take, TakeReady, Wait, ReadyWait, Leave, Ask}
 use Rattle.channel.specs.declared.zero.outcome.ZeroEffect.the-variants as effect
 use Rattle.channel.specs.declared.zero.outcome.ZeroNext.the-variants.{Ends}
-use Rattle.schedule.specs.declared.record.Place.the-variants.{Zero, Done}
+use Rattle.places.specs.declared.place.Place.the-variants.{Zero, Done}
 use Rattle.schedule.specs.declared.record.ThreadRecord.{ThreadRecord}
 use Rattle.grown.proofs.Orderly.{viewOn}
 use Rattle.grown.proofs.Places.{nobody, stands-picked}

@@ -15,13 +15,13 @@ use Rattle.channel.specs.declared.answer.Tick.{Tick}
 use Rattle.channel.specs.declared.answer.Answer.{Answer}
 use Rattle.schedule.specs.Record.{placeOf, withThread}
 use Rattle.schedule.specs.History.{Act, begins, takes, Moment}
-use Rattle.schedule.specs.Begin.{codeOf, startedZero}
-use Rattle.schedule.specs.FormWaits.{awaits}
-use Rattle.schedule.specs.declared.begin.Code.{Code}
-use Rattle.schedule.specs.declared.begin.Code.the-variants.{Unknown, TrySend, TryReceive, Send, Receive, Len, IsEmpty, IsFull, IsDisconnected, Disconnect}
-use Rattle.schedule.specs.declared.begin.Start.the-variants.{At}
-use Rattle.schedule.specs.declared.record.Place.{Place}
-use Rattle.schedule.specs.declared.record.Place.the-variants.{Idle, Done}
+use Rattle.places.specs.Begin.{codeOf, startedZero}
+use Rattle.places.specs.FormWaits.{awaits}
+use Rattle.places.specs.declared.begin.Code.{Code}
+use Rattle.places.specs.declared.begin.Code.the-variants.{Unknown, TrySend, TryReceive, Send, Receive, Len, IsEmpty, IsFull, IsDisconnected, Disconnect}
+use Rattle.places.specs.declared.begin.Start.the-variants.{At}
+use Rattle.places.specs.declared.place.Place.{Place}
+use Rattle.places.specs.declared.place.Place.the-variants.{Idle, Done}
 use Rattle.schedule.specs.declared.record.Record.{Record}
 use Rattle.grown.proofs.Tests.{clash}
 use Rattle.grown.proofs.Starts.{at-place, never, begun-at}

@@ -24,9 +24,9 @@ use Rattle.channel.specs.declared.zero.outcome.ZeroEffect.{ZeroEffect}
 use Rattle.channel.specs.declared.zero.outcome.ZeroEffect.the-variants as effect
 use Rattle.channel.specs.declared.zero.outcome.ZeroOutcome.{ZeroOutcome}
 use Rattle.schedule.specs.Record.{placeOf, placeAfterZero}
-use Rattle.schedule.specs.FormWaits.{timesIn}
+use Rattle.places.specs.FormWaits.{timesIn}
 use Rattle.schedule.specs.History.{steps, Moment, updated}
-use Rattle.schedule.specs.declared.record.Place.the-variants.{Zero}
+use Rattle.places.specs.declared.place.Place.the-variants.{Zero}
 use Rattle.grown.proofs.Turning.{Turned, stays, turns, turned-both}
 use Rattle.grown.proofs.ZeroMemory.{word-else, packet-else, same-words, at-queue, same-list}
 use Rattle.handover.specs.Meetings.{Past, opposedAfter, plain, brought, wordAt, packetOf}

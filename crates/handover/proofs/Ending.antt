@@ -24,7 +24,7 @@ use Rattle.channel.specs.declared.zero.outcome.ZeroNext.the-variants.{Goes, End
 use Rattle.channel.specs.declared.zero.outcome.ZeroOutcome.{ZeroOutcome}
 use Rattle.schedule.specs.Record.{placeOf}
 use Rattle.schedule.specs.History.{Moment}
-use Rattle.schedule.specs.declared.record.Place.the-variants.{Zero}
+use Rattle.places.specs.declared.place.Place.the-variants.{Zero}
 use Rattle.grown.proofs.Tests.{clash}
 use Rattle.grown.proofs.Departures.{unlike}
 use Rattle.grown.proofs.Scene.{Scene, my-word, my-packet}

@@ -22,7 +22,7 @@ use Rattle.channel.specs.declared.zero.outcome.ZeroEffect.the-variants as effec
 use Rattle.channel.specs.declared.zero.outcome.ZeroNext.the-variants.{Ends}
 use Rattle.schedule.specs.Record.{placeOf}
 use Rattle.schedule.specs.History.{Moment}
-use Rattle.schedule.specs.declared.record.Place.the-variants.{Zero}
+use Rattle.places.specs.declared.place.Place.the-variants.{Zero}
 use Rattle.handover.specs.Meetings.{Past}
 use Rattle.handover.specs.Statement.{queueAt, Tells}
 use Rattle.handover.proofs.Inv.{Inv}

@@ -23,10 +23,10 @@ use Rattle.channel.specs.declared.zero.outcome.ZeroEffect.the-variants as effec
 use Rattle.channel.specs.declared.zero.outcome.ZeroNext.the-variants.{Goes}
 use Rattle.channel.specs.declared.zero.outcome.ZeroOutcome.{ZeroOutcome}
 use Rattle.schedule.specs.Record.{placeOf}
-use Rattle.schedule.specs.FormWaits.{awaits, partnerOf, timesIn}
+use Rattle.places.specs.FormWaits.{awaits, partnerOf, timesIn}
 use Rattle.schedule.specs.History.{Act, begins, steps, advances, takes, Moment, next}
-use Rattle.schedule.specs.declared.form.waits.Partner.the-variants.{Of}
-use Rattle.schedule.specs.declared.record.Place.the-variants.{Zero}
+use Rattle.places.specs.declared.waits.Partner.the-variants.{Of}
+use Rattle.places.specs.declared.place.Place.the-variants.{Zero}
 use Rattle.grown.proofs.Departures.{unlike}
 use Rattle.grown.proofs.Scene.{my-word}
 use Rattle.grown.proofs.ZeroKept.{KeptZero}

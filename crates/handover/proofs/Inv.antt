@@ -15,8 +15,8 @@ use Rattle.channel.specs.declared.zero.call.ZeroCall.{ZeroCall}
 use Rattle.channel.specs.declared.zero.call.ZeroCall.the-variants.{First, Put, PutReady, Take, TakeReady, Wait, ReadyWait, Leave, Ask}
 use Rattle.schedule.specs.Record.{placeOf}
 use Rattle.schedule.specs.History.{Moment}
-use Rattle.schedule.specs.declared.record.Place.{Place}
-use Rattle.schedule.specs.declared.record.Place.the-variants.{Idle, Array, Zero, Done}
+use Rattle.places.specs.declared.place.Place.{Place}
+use Rattle.places.specs.declared.place.Place.the-variants.{Idle, Array, Zero, Done}
 use Rattle.grown.proofs.ZeroKept.{KeptZero}
 use Rattle.handover.specs.Meetings.{Past, pairOf, senderOf, wordAt, packetOf}
 use Rattle.handover.specs.Statement.{queueAt, aheadOf, Tells, Unpaired}

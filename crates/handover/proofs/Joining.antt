@@ -30,8 +30,8 @@ use Rattle.channel.specs.declared.zero.outcome.ZeroNext.the-variants.{Goes, End
 use Rattle.channel.specs.declared.zero.outcome.ZeroOutcome.{ZeroOutcome}
 use Rattle.schedule.specs.Record.{placeOf}
 use Rattle.schedule.specs.History.{Moment}
-use Rattle.schedule.specs.FormWaits.{sameSide, timesIn}
-use Rattle.schedule.specs.declared.record.Place.the-variants.{Zero}
+use Rattle.places.specs.FormWaits.{sameSide, timesIn}
+use Rattle.places.specs.declared.place.Place.the-variants.{Zero}
 use Rattle.grown.proofs.Scene.{Scene, my-word, my-packet, absent}
 use Rattle.grown.proofs.ZeroMemory.{same-words, list-here}
 use Rattle.handover.specs.Meetings.{Past, opposedAfter, packetOf}

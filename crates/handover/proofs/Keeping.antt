@@ -19,9 +19,9 @@ use Rattle.channel.specs.declared.zero.outcome.ZeroEffect.the-variants.{Nothing
 use Rattle.channel.specs.declared.zero.outcome.ZeroOutcome.{ZeroOutcome}
 use Rattle.schedule.specs.Record.{placeOf, placeAfterZero}
 use Rattle.schedule.specs.History.{steps, Moment}
-use Rattle.schedule.specs.FormWaits.{awaits, partnerOf}
-use Rattle.schedule.specs.declared.form.waits.Partner.the-variants.{Of}
-use Rattle.schedule.specs.declared.record.Place.the-variants.{Zero}
+use Rattle.places.specs.FormWaits.{awaits, partnerOf}
+use Rattle.places.specs.declared.waits.Partner.the-variants.{Of}
+use Rattle.places.specs.declared.place.Place.the-variants.{Zero}
 use Rattle.grown.proofs.Tests.{clash}
 use Rattle.handover.specs.Meetings.{Past, opposes, wordAt, packetOf}
 use Rattle.handover.specs.Statement.{Waits}

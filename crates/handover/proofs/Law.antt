@@ -7,9 +7,9 @@ use Rattle.waker.specs.declared.wakers.Side.the-variants.{Sender}
 use Rattle.channel.specs.Zero.{packetFor}
 use Rattle.channel.specs.declared.zero.call.ZeroCall.{ZeroCall}
 use Rattle.channel.specs.declared.zero.call.ZeroCall.the-variants.{First, Put, PutReady, Take, TakeReady, Wait, ReadyWait, Leave, Ask}
-use Rattle.schedule.specs.FormWaits.{zeroPartner}
+use Rattle.places.specs.FormWaits.{zeroPartner}
 use Rattle.schedule.specs.History.{Moment}
-use Rattle.schedule.specs.declared.form.waits.Partner.the-variants.{Of}
+use Rattle.places.specs.declared.waits.Partner.the-variants.{Of}
 use Rattle.handover.specs.Meetings.{Past}
 use Rattle.handover.specs.Statement.{Holds}
 use Rattle.handover.proofs.Inv.{Inv}

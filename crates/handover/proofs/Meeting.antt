@@ -21,11 +21,11 @@ use Rattle.channel.specs.declared.zero.call.ZeroCall.the-variants.{First, Put, 
 use Rattle.channel.specs.declared.zero.outcome.ZeroEffect.the-variants as effect
 use Rattle.channel.specs.declared.zero.outcome.ZeroNext.the-variants.{Ends as Ended}
 use Rattle.schedule.specs.Record.{placeOf, placeAfterZero}
-use Rattle.schedule.specs.FormWaits.{isPicked, awaits, zeroPartner, partnerOf}
+use Rattle.places.specs.FormWaits.{isPicked, awaits, zeroPartner, partnerOf}
 use Rattle.schedule.specs.History.{steps, Moment, next, updated}
-use Rattle.schedule.specs.declared.form.waits.Partner.the-variants.{Of}
-use Rattle.schedule.specs.declared.record.Place.{Place}
-use Rattle.schedule.specs.declared.record.Place.the-variants.{Idle, Array, Zero, Done}
+use Rattle.places.specs.declared.waits.Partner.the-variants.{Of}
+use Rattle.places.specs.declared.place.Place.{Place}
+use Rattle.places.specs.declared.place.Place.the-variants.{Idle, Array, Zero, Done}
 use Rattle.grown.proofs.Tests.{clash}
 use Rattle.grown.proofs.Places.{nobody}
 use Rattle.grown.proofs.ZeroKept.{KeptZero}

@@ -12,13 +12,13 @@ use Rattle.channel.specs.declared.zero.call.ZeroCall.{ZeroCall}
 use Rattle.channel.specs.declared.zero.outcome.ZeroOutcome.{ZeroOutcome}
 use Rattle.schedule.specs.Record.{threadAt, placeOf, withThread, placeAfterZero, afterZero}
 use Rattle.schedule.specs.History.{steps, actOn, Moment, remembered, next}
-use Rattle.schedule.specs.declared.record.Place.{Place}
-use Rattle.schedule.specs.declared.record.Place.the-variants.{Idle, Array, Zero}
+use Rattle.places.specs.declared.place.Place.{Place}
+use Rattle.places.specs.declared.place.Place.the-variants.{Idle, Array, Zero}
 use Rattle.schedule.specs.declared.record.Record.{Record}
 use Rattle.schedule.specs.declared.record.ThreadRecord.{ThreadRecord}
-use Rattle.schedule.specs.declared.refusal.Refusal.{Refusal}
-use Rattle.schedule.specs.declared.refusal.Reply.{Reply}
-use Rattle.schedule.specs.declared.refusal.Reply.the-variants.{Done, Refused}
+use Rattle.places.specs.declared.refusal.Refusal.{Refusal}
+use Rattle.places.specs.declared.refusal.Reply.{Reply}
+use Rattle.places.specs.declared.refusal.Reply.the-variants.{Done, Refused}
 use Rattle.grown.proofs.Acts.{every-reply}
 use Rattle.grown.proofs.Scene.{Scene, here}
 use Rattle.grown.proofs.ZeroKept.{KeptZero}

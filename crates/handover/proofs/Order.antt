@@ -28,9 +28,9 @@ use Rattle.channel.specs.declared.zero.outcome.ZeroEffect.the-variants as effec
 use Rattle.channel.specs.declared.zero.outcome.ZeroNext.the-variants.{Goes}
 use Rattle.channel.specs.declared.zero.outcome.ZeroOutcome.{ZeroOutcome}
 use Rattle.schedule.specs.Record.{placeOf, placeAfterZero}
-use Rattle.schedule.specs.FormWaits.{timesIn}
+use Rattle.places.specs.FormWaits.{timesIn}
 use Rattle.schedule.specs.History.{steps, Moment, next}
-use Rattle.schedule.specs.declared.record.Place.the-variants.{Zero, Done}
+use Rattle.places.specs.declared.place.Place.the-variants.{Zero, Done}
 use Rattle.grown.proofs.Times.{found}
 use Rattle.grown.proofs.ZeroKept.{KeptZero}
 use Rattle.handover.specs.Meetings.{Past, rule}

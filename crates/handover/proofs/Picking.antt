@@ -25,9 +25,9 @@ use Rattle.channel.specs.declared.zero.outcome.ZeroNext.the-variants.{Goes}
 use Rattle.channel.specs.declared.zero.outcome.ZeroOutcome.{ZeroOutcome}
 use Rattle.schedule.specs.Record.{placeOf}
 use Rattle.schedule.specs.History.{steps, Moment, updated}
-use Rattle.schedule.specs.FormWaits.{sameSide, partnerOf, timesIn}
-use Rattle.schedule.specs.declared.form.waits.Partner.the-variants.{Of}
-use Rattle.schedule.specs.declared.record.Place.the-variants.{Zero}
+use Rattle.places.specs.FormWaits.{sameSide, partnerOf, timesIn}
+use Rattle.places.specs.declared.waits.Partner.the-variants.{Of}
+use Rattle.places.specs.declared.place.Place.the-variants.{Zero}
 use Rattle.grown.proofs.Tests.{clash}
 use Rattle.grown.proofs.Times.{Finds, found}
 use Rattle.grown.proofs.Orderly.{viewOn, Picks}

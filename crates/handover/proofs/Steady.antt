@@ -16,10 +16,10 @@ use Rattle.channel.specs.declared.zero.call.Limit.the-variants.{Try, Until}
 use Rattle.channel.specs.declared.zero.call.ZeroCall.the-variants.{First, Put, PutReady, Take, TakeReady, Wait, ReadyWait, Leave, Ask}
 use Rattle.schedule.specs.Record.{placeOf}
 use Rattle.schedule.specs.History.{Act, Moment}
-use Rattle.schedule.specs.FormWaits.{partnerOf}
-use Rattle.schedule.specs.declared.form.waits.Partner.the-variants.{Of}
-use Rattle.schedule.specs.declared.record.Place.{Place}
-use Rattle.schedule.specs.declared.record.Place.the-variants.{Idle, Array, Zero, Done}
+use Rattle.places.specs.FormWaits.{partnerOf}
+use Rattle.places.specs.declared.waits.Partner.the-variants.{Of}
+use Rattle.places.specs.declared.place.Place.{Place}
+use Rattle.places.specs.declared.place.Place.the-variants.{Idle, Array, Zero, Done}
 use Rattle.handover.specs.Meetings.{Past, senderOf, wordAt, packetOf}
 use Rattle.handover.specs.Statement.{queueAt, aheadOf, Waits, Tells}
 use Rattle.handover.proofs.Inv.{Holding, Limited, Joint, Chosen, Waiter, CutOff, TimedOut, AtWait, AtLeave, AtPlace}

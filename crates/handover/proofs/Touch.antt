@@ -15,10 +15,10 @@ use Rattle.channel.specs.declared.zero.call.Limit.{Limit}
 use Rattle.channel.specs.declared.zero.call.Question.the-variants.{Disconnect}
 use Rattle.channel.specs.declared.zero.call.ZeroCall.the-variants.{First, Ask}
 use Rattle.schedule.specs.Record.{placeOf}
-use Rattle.schedule.specs.FormWaits.{awaits, partnerOf, timesIn}
+use Rattle.places.specs.FormWaits.{awaits, partnerOf, timesIn}
 use Rattle.schedule.specs.History.{Act, steps, Moment}
-use Rattle.schedule.specs.declared.form.waits.Partner.the-variants.{Of}
-use Rattle.schedule.specs.declared.record.Place.the-variants.{Zero}
+use Rattle.places.specs.declared.waits.Partner.the-variants.{Of}
+use Rattle.places.specs.declared.place.Place.the-variants.{Zero}
 use Rattle.handover.specs.Meetings.{Past, wordAt, packetOf}
 use Rattle.handover.specs.Statement.{queueAt, aheadOf}
 use Rattle.handover.proofs.Inv.{AtPlace}

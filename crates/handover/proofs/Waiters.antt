@@ -11,9 +11,9 @@ use Rattle.channel.specs.declared.answer.Tick.{Tick}
 use Rattle.channel.specs.declared.zero.Packet.{Packet}
 use Rattle.schedule.specs.Record.{placeOf}
 use Rattle.schedule.specs.History.{Moment}
-use Rattle.schedule.specs.FormWaits.{queuedAt, awaits, partnerOf, timesIn}
-use Rattle.schedule.specs.declared.form.waits.Partner.the-variants.{Of}
-use Rattle.schedule.specs.declared.record.Place.{Place}
+use Rattle.places.specs.FormWaits.{queuedAt, awaits, partnerOf, timesIn}
+use Rattle.places.specs.declared.waits.Partner.the-variants.{Of}
+use Rattle.places.specs.declared.place.Place.{Place}
 use Rattle.grown.proofs.Tests.{clash}
 use Rattle.grown.proofs.Orderly.{viewOn, Picks}
 use Rattle.grown.proofs.Places.{waiting-there, stands-queued, stands-waiting}

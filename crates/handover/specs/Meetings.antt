@@ -18,12 +18,12 @@ use Rattle.channel.specs.declared.zero.call.ZeroCall.the-variants.{First, Put, 
 use Rattle.channel.specs.declared.zero.outcome.ZeroEffect.{ZeroEffect}
 use Rattle.channel.specs.declared.zero.outcome.ZeroEffect.the-variants as effect
 use Rattle.schedule.specs.Record.{placeOf}
-use Rattle.schedule.specs.Begin.{codeOf, carriedBy}
-use Rattle.schedule.specs.FormWaits.{sameSide}
+use Rattle.places.specs.Begin.{codeOf, carriedBy}
+use Rattle.places.specs.FormWaits.{sameSide}
 use Rattle.schedule.specs.History.{Act, begins, steps, advances, takes, Moment, reached, updated}
-use Rattle.schedule.specs.declared.begin.Code.{Code}
-use Rattle.schedule.specs.declared.record.Place.{Place}
-use Rattle.schedule.specs.declared.record.Place.the-variants.{Idle, Array, Zero, Done}
+use Rattle.places.specs.declared.begin.Code.{Code}
+use Rattle.places.specs.declared.place.Place.{Place}
+use Rattle.places.specs.declared.place.Place.the-variants.{Idle, Array, Zero, Done}
 use Rattle.schedule.specs.declared.record.Record.{Record}
 
 -- A thread's word and packet in a record.

@@ -24,12 +24,12 @@ use Rattle.channel.specs.declared.zero.call.ZeroCall.{ZeroCall}
 use Rattle.channel.specs.declared.zero.call.ZeroCall.the-variants.{First, Wait, ReadyWait, Leave, Ask}
 use Rattle.schedule.specs.Record.{placeOf, acceptedAs}
 use Rattle.schedule.specs.Making.{madeZero}
-use Rattle.schedule.specs.FormWaits.{awaits, zeroPartner, partnerOf, timesIn}
+use Rattle.places.specs.FormWaits.{awaits, zeroPartner, partnerOf, timesIn}
 use Rattle.schedule.specs.History.{Act, steps, actOn, Moment, next}
-use Rattle.schedule.specs.declared.form.waits.Partner.the-variants.{Of}
-use Rattle.schedule.specs.declared.record.Place.the-variants.{Zero, Done}
+use Rattle.places.specs.declared.waits.Partner.the-variants.{Of}
+use Rattle.places.specs.declared.place.Place.the-variants.{Zero, Done}
 use Rattle.schedule.specs.declared.record.Record.{Record}
-use Rattle.schedule.specs.declared.refusal.Reply.the-variants as reply
+use Rattle.places.specs.declared.refusal.Reply.the-variants as reply
 use Rattle.handover.specs.Meetings.{Past, Pair, pairOf, senderOf, wordAt, packetOf, rule, momentAfter}
 
 -- A side's queue, oldest entry first, and how many entries stand before t in it.

@@ -13,23 +13,23 @@ use Rattle.waker.specs.declared.context.Thread.{Thread}
 use Rattle.channel.specs.Answer.{kindOf, valueOf}
 use Rattle.channel.specs.declared.answer.Answer.{Answer}
 use Rattle.channel.specs.declared.answer.Tick.{Tick}
-use Rattle.schedule.specs.Refusal.{numberOf}
+use Rattle.places.specs.Refusal.{numberOf}
 use Rattle.schedule.specs.Record.{placeOf, refusedWith}
 use Rattle.schedule.specs.Record as schedule
 use Rattle.schedule.specs.Making.{zeroRecord, madeFor, madeArray, madeZero}
-use Rattle.schedule.specs.Begin.{started}
+use Rattle.places.specs.Begin.{started}
 use Rattle.schedule.specs.Calls.{formed, startedOn, begunAt, begunInForm, begun, steppedAt, steppedInForm, stepped, advancedInForm, advanced, taken}
 use Rattle.schedule.specs.History.{Act, begins, steps, advances, takes, actOn, after, Fresh, fresh-array, fresh-zero}
-use Rattle.schedule.specs.declared.begin.Start.{Start}
-use Rattle.schedule.specs.declared.begin.Start.the-variants.{None, At}
-use Rattle.schedule.specs.declared.record.Place.{Place}
-use Rattle.schedule.specs.declared.record.Place.the-variants.{Idle, Array, Zero, Done}
+use Rattle.places.specs.declared.begin.Start.{Start}
+use Rattle.places.specs.declared.begin.Start.the-variants.{None, At}
+use Rattle.places.specs.declared.place.Place.{Place}
+use Rattle.places.specs.declared.place.Place.the-variants.{Idle, Array, Zero, Done}
 use Rattle.schedule.specs.declared.record.Record.{Record}
 use Rattle.schedule.specs.declared.record.Replied.{Replied}
-use Rattle.schedule.specs.declared.refusal.Refusal.{Refusal}
-use Rattle.schedule.specs.declared.refusal.Refusal.the-variants as refusal
-use Rattle.schedule.specs.declared.refusal.Reply.{Reply}
-use Rattle.schedule.specs.declared.refusal.Reply.the-variants as reply
+use Rattle.places.specs.declared.refusal.Refusal.{Refusal}
+use Rattle.places.specs.declared.refusal.Refusal.the-variants as refusal
+use Rattle.places.specs.declared.refusal.Reply.{Reply}
+use Rattle.places.specs.declared.refusal.Reply.the-variants as reply
 use Rattle.text.specs.Hex.{hexOf}
 use Rattle.text.specs.Frames.{given, headerOf, beginOf, stepOf, advanceOf, takeOf, formOf, parseOf}
 use Rattle.text.specs.Output.{codeLine, tookLine, Put}

@@ -2,10 +2,10 @@
 ghost use mathlib.Core.Path.{_≡_};
 ghost use Rattle.playback.specs.Served.{nothingMade, refusedBy, acceptedAs, headedBy, keptBy, makingOf, servedFor, Standing};
 use channel::answer::Tick;
+use places::refusal::Refusal;
+use places::refusal::Reply;
 use schedule::record::Record;
 use schedule::record::Replied;
-use schedule::refusal::Refusal;
-use schedule::refusal::Reply;
 use text::frame::Frame;
 
 /// The record, and whether a header has made its channel.

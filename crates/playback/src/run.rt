@@ -8,8 +8,8 @@ ghost use Rattle.playback.specs.Served.{nothingMade};
 ghost use Rattle.playback.specs.Output.{repliesTo, Replayed};
 use crate::held::Held;
 use crate::reply;
-use schedule::refusal::Refusal;
-use schedule::refusal::Reply;
+use places::refusal::Refusal;
+use places::refusal::Reply;
 use text::frame;
 use text::lines;
 

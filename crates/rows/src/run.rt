@@ -1,10 +1,10 @@
 //! A history of public calls under test: the record, and whether it has shown what was expected so far.
 use channel::answer::Tick;
+use places::refusal::Reply;
 use saved::fields;
 use saved::fields::FIELDS;
 use schedule::record::Record;
 use schedule::record::Replied;
-use schedule::refusal::Reply;
 use waker::context::Thread;
 
 /// No deadline.

@@ -24,8 +24,8 @@ use Rattle.channel.specs.declared.zero.call.Question.{Question}
 use Rattle.channel.specs.declared.zero.call.Question.the-variants as ask
 use Rattle.channel.specs.declared.zero.call.ZeroCall.{ZeroCall}
 use Rattle.channel.specs.declared.zero.call.ZeroCall.the-variants.{First, Put, PutReady, Take, TakeReady, Wait, ReadyWait, Leave, Ask}
-use Rattle.schedule.specs.declared.record.Place.{Place}
-use Rattle.schedule.specs.declared.record.Place.the-variants.{Idle, Array, Zero, Done}
+use Rattle.places.specs.declared.place.Place.{Place}
+use Rattle.places.specs.declared.place.Place.the-variants.{Idle, Array, Zero, Done}
 use Rattle.saved.specs.declared.place.Numbers.{Numbers}
 
 -- A code, and up to two saved numbers: a message or a length's tail first, a position, deadline or partner second.

@@ -11,7 +11,7 @@ use channel::zero::call::Limit;
 use channel::zero::call::Offer;
 use channel::zero::call::Question;
 use channel::zero::call::ZeroCall;
-use schedule::record::Place;
+use places::place::Place;
 use waker::wakers::Side;
 
 /// A place's code, and up to two saved numbers.

@@ -16,16 +16,16 @@ use Rattle.channel.specs.declared.array.call.ArrayCall.{ArrayCall}
 use Rattle.channel.specs.declared.zero.ZeroStepped.{ZeroStepped}
 use Rattle.channel.specs.declared.zero.call.ZeroCall.{ZeroCall}
 use Rattle.schedule.specs.Record.{placeOf, withThread, withClock, afterArray, afterZero, replied, refusedWith, acceptedAs}
-use Rattle.schedule.specs.Begin.{started}
+use Rattle.places.specs.Begin.{started}
 use Rattle.schedule.specs.Form.{inForm, stepLimit, clockLimit}
 use Rattle.schedule.specs.Calls.{formed, threaded, startedOn, begunAt, begunInForm, limited, steppedAt, steppedInForm, advancedInForm, takenAt, takenInForm}
-use Rattle.schedule.specs.declared.begin.Start.{Start}
-use Rattle.schedule.specs.declared.record.Place.{Place}
-use Rattle.schedule.specs.declared.record.Place.the-variants.{Idle, Array, Zero, Done}
+use Rattle.places.specs.declared.begin.Start.{Start}
+use Rattle.places.specs.declared.place.Place.{Place}
+use Rattle.places.specs.declared.place.Place.the-variants.{Idle, Array, Zero, Done}
 use Rattle.schedule.specs.declared.record.Record.{Record}
 use Rattle.schedule.specs.declared.record.Replied.{Replied}
-use Rattle.schedule.specs.declared.refusal.Refusal.the-variants.{OutOfForm, NoSuchThread, StepLimit, ClockLimit}
-use Rattle.schedule.specs.declared.refusal.Reply.the-variants.{Took}
+use Rattle.places.specs.declared.refusal.Refusal.the-variants.{OutOfForm, NoSuchThread, StepLimit, ClockLimit}
+use Rattle.places.specs.declared.refusal.Reply.the-variants.{Took}
 
 -- The form is tested first.
 module _ (r : Record) (b : Bool) (e : b ≡ inForm r) where

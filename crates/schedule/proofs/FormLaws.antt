@@ -12,17 +12,17 @@ use Rattle.channel.specs.Zero.{packetAt}
 use Rattle.channel.specs.ArrayBounds.{Sized}
 use Rattle.channel.specs.declared.array.Array.{Array}
 use Rattle.channel.specs.declared.position.Shape.{Shape}
-use Rattle.schedule.specs.Tests.{not}
-use Rattle.schedule.specs.FormSaved.{shapeInForm, slotInForm, Measured}
-use Rattle.schedule.specs.FormWaits.{waitInForm, queueInForm}
+use Rattle.places.specs.Tests.{not}
+use Rattle.places.specs.FormSaved.{shapeInForm, slotInForm, Measured}
+use Rattle.places.specs.FormWaits.{waitInForm, queueInForm}
 use Rattle.schedule.specs.Record.{placeOf}
 use Rattle.schedule.specs.Form.{arrayInForm, zeroInForm, flavouredInForm, flavourInForm, queuesInForm, counted, placeInForm, partnerInForm, standsInForm, threadInForm, Shaped, Short}
-use Rattle.schedule.specs.declared.record.Flavour.{Flavour}
-use Rattle.schedule.specs.declared.record.Flavour.the-variants as flavour
+use Rattle.places.specs.declared.place.Flavour.{Flavour}
+use Rattle.places.specs.declared.place.Flavour.the-variants as flavour
 use Rattle.schedule.specs.declared.record.Record.{Record}
-use Rattle.schedule.proofs.TestLaws.{and-left, and-right, and-stops, and-goes}
-use Rattle.schedule.proofs.FormSavedLaws.{shaped}
-use Rattle.schedule.proofs.FormWaitsLaws.{queue-low}
+use Rattle.places.proofs.TestLaws.{and-left, and-right, and-stops, and-goes}
+use Rattle.places.proofs.FormSavedLaws.{shaped}
+use Rattle.places.proofs.FormWaitsLaws.{queue-low}
 
 -- The walk of `slots_in_form`.
 abbrev pub slotAt : Shape → Array → ℕ → Bool

@@ -33,20 +33,20 @@ use Rattle.channel.specs.declared.array.call.ArrayCall.{ArrayCall}
 use Rattle.channel.specs.declared.array.call.ArrayCall.the-variants as call
 use Rattle.channel.specs.declared.zero.call.ZeroCall.{ZeroCall}
 use Rattle.channel.specs.declared.zero.call.ZeroCall.the-variants.{First, Put, PutReady, Take, TakeReady, Wait, ReadyWait, Leave, Ask}
-use Rattle.schedule.specs.Tests.{_and_}
+use Rattle.places.specs.Tests.{_and_}
 use Rattle.schedule.specs.Record.{placeOf}
-use Rattle.schedule.specs.FormSaved.{tailInForm, wordInForm, slotInForm, sendInForm, receiveInForm, lenInForm, savedInForm}
-use Rattle.schedule.specs.FormWaits.{isPicked, queuedAt, standsOn, timesIn, entryInForm, queueInForm}
+use Rattle.places.specs.FormSaved.{tailInForm, wordInForm, slotInForm, sendInForm, receiveInForm, lenInForm, savedInForm}
+use Rattle.places.specs.FormWaits.{isPicked, queuedAt, standsOn, timesIn, entryInForm, queueInForm}
 use Rattle.schedule.specs.Form.{clockLimit, boundsHold, arrayInForm, flavouredInForm, flavourInForm, slotsInForm, queuesInForm, placeInForm, namedInForm, partnerInForm, standsInForm, threadInForm, threadsInForm, inForm, InForm}
-use Rattle.schedule.specs.declared.form.waits.Partner.the-variants.{Of}
-use Rattle.schedule.specs.declared.record.Flavour.{Flavour}
-use Rattle.schedule.specs.declared.record.Flavour.the-variants as flavour
-use Rattle.schedule.specs.declared.record.Place.{Place}
-use Rattle.schedule.specs.declared.record.Place.the-variants.{Array, Zero}
+use Rattle.places.specs.declared.waits.Partner.the-variants.{Of}
+use Rattle.places.specs.declared.place.Flavour.{Flavour}
+use Rattle.places.specs.declared.place.Flavour.the-variants as flavour
+use Rattle.places.specs.declared.place.Place.{Place}
+use Rattle.places.specs.declared.place.Place.the-variants.{Array, Zero}
 use Rattle.schedule.specs.declared.record.Record.{Record}
-use Rattle.schedule.proofs.TestLaws.{and-left, and-right, either-way, all-at}
-use Rattle.schedule.proofs.TimesLaws.{room}
-use Rattle.schedule.proofs.FormSavedLaws.{shaped}
+use Rattle.places.proofs.TestLaws.{and-left, and-right, either-way, all-at}
+use Rattle.places.proofs.TimesLaws.{room}
+use Rattle.places.proofs.FormSavedLaws.{shaped}
 
 -- Words in form are small and name a slot.
 module _ (S : Shape) where

@@ -8,16 +8,16 @@ use Rattle.channel.specs.Array.{arrayStep}
 use Rattle.channel.specs.Zero.{zeroStep}
 use Rattle.channel.specs.declared.answer.Tick.{Tick}
 use Rattle.schedule.specs.Record.{placeOf, withThread, withClock, afterArray, afterZero, replied, refusedWith, acceptedAs}
-use Rattle.schedule.specs.Begin.{started}
+use Rattle.places.specs.Begin.{started}
 use Rattle.schedule.specs.Form.{inForm, stepLimit, clockLimit}
-use Rattle.schedule.specs.declared.begin.Start.{Start}
-use Rattle.schedule.specs.declared.begin.Start.the-variants.{None, At}
-use Rattle.schedule.specs.declared.record.Place.{Place}
-use Rattle.schedule.specs.declared.record.Place.the-variants.{Idle, Array, Zero, Done}
+use Rattle.places.specs.declared.begin.Start.{Start}
+use Rattle.places.specs.declared.begin.Start.the-variants.{None, At}
+use Rattle.places.specs.declared.place.Place.{Place}
+use Rattle.places.specs.declared.place.Place.the-variants.{Idle, Array, Zero, Done}
 use Rattle.schedule.specs.declared.record.Record.{Record}
 use Rattle.schedule.specs.declared.record.Replied.{Replied}
-use Rattle.schedule.specs.declared.refusal.Refusal.the-variants.{OutOfForm, NoSuchThread, NotIdle, NotRunning, UnknownCall, StepLimit, ClockLimit, NoAnswer}
-use Rattle.schedule.specs.declared.refusal.Reply.the-variants.{Took}
+use Rattle.places.specs.declared.refusal.Refusal.the-variants.{OutOfForm, NoSuchThread, NotIdle, NotRunning, UnknownCall, StepLimit, ClockLimit, NoAnswer}
+use Rattle.places.specs.declared.refusal.Reply.the-variants.{Took}
 
 -- 1: the record is not in form.
 abbrev pub formed : Record → Replied → Replied

@@ -12,16 +12,16 @@ use Rattle.channel.specs.Position.{slots, at}
 use Rattle.channel.specs.Zero.{packetAt}
 use Rattle.channel.specs.ArrayBounds.{Sized}
 use Rattle.channel.specs.declared.position.Shape.{Shape}
-use Rattle.schedule.specs.Tests.{_and_, not, allBelow}
+use Rattle.places.specs.Tests.{_and_, not, allBelow}
 use Rattle.schedule.specs.Record.{placeOf}
-use Rattle.schedule.specs.FormSaved.{shapeInForm, tailInForm, wordInForm, slotInForm, savedInForm}
-use Rattle.schedule.specs.FormWaits.{isPicked, waitInForm, standsOn, awaits, partnerOf, timesIn, queueInForm}
-use Rattle.schedule.specs.declared.form.waits.Partner.{Partner}
-use Rattle.schedule.specs.declared.form.waits.Partner.the-variants.{None, Of}
-use Rattle.schedule.specs.declared.record.Flavour.{Flavour}
-use Rattle.schedule.specs.declared.record.Flavour.the-variants as flavour
-use Rattle.schedule.specs.declared.record.Place.{Place}
-use Rattle.schedule.specs.declared.record.Place.the-variants.{Idle, Array, Zero, Done}
+use Rattle.places.specs.FormSaved.{shapeInForm, tailInForm, wordInForm, slotInForm, savedInForm}
+use Rattle.places.specs.FormWaits.{isPicked, waitInForm, standsOn, awaits, partnerOf, timesIn, queueInForm}
+use Rattle.places.specs.declared.waits.Partner.{Partner}
+use Rattle.places.specs.declared.waits.Partner.the-variants.{None, Of}
+use Rattle.places.specs.declared.place.Flavour.{Flavour}
+use Rattle.places.specs.declared.place.Flavour.the-variants as flavour
+use Rattle.places.specs.declared.place.Place.{Place}
+use Rattle.places.specs.declared.place.Place.the-variants.{Idle, Array, Zero, Done}
 use Rattle.schedule.specs.declared.record.Record.{Record}
 
 -- 1,000,000 steps a record; the clock is at most fffffffe.

@@ -10,11 +10,11 @@ use Rattle.channel.specs.Array.{freshArray}
 use Rattle.channel.specs.Zero.{freshZero}
 use Rattle.channel.specs.declared.position.Shape.{Shape}
 use Rattle.schedule.specs.Record.{threadAt, refusedWith, acceptedAs}
-use Rattle.schedule.specs.declared.record.Flavour.the-variants as flavour
-use Rattle.schedule.specs.declared.record.Place.the-variants.{Idle}
+use Rattle.places.specs.declared.place.Flavour.the-variants as flavour
+use Rattle.places.specs.declared.place.Place.the-variants.{Idle}
 use Rattle.schedule.specs.declared.record.Record.{Record}
 use Rattle.schedule.specs.declared.record.Replied.{Replied}
-use Rattle.schedule.specs.declared.refusal.Refusal.the-variants.{Capacity, ThreadCount}
+use Rattle.places.specs.declared.refusal.Refusal.the-variants.{Capacity, ThreadCount}
 
 abbrev pub noShape : Shape
 noShape = record { capacity = 0; mark = 0; lap = 0 }

@@ -8,14 +8,14 @@ use Rattle.channel.specs.declared.array.outcome.ArrayNext.the-variants as array
 use Rattle.channel.specs.declared.zero.ZeroStepped.{ZeroStepped}
 use Rattle.channel.specs.declared.zero.outcome.ZeroNext.{ZeroNext}
 use Rattle.channel.specs.declared.zero.outcome.ZeroNext.the-variants as zero
-use Rattle.schedule.specs.declared.record.Place.{Place}
-use Rattle.schedule.specs.declared.record.Place.the-variants.{Idle, Array, Zero, Done}
+use Rattle.places.specs.declared.place.Place.{Place}
+use Rattle.places.specs.declared.place.Place.the-variants.{Idle, Array, Zero, Done}
 use Rattle.schedule.specs.declared.record.ThreadRecord.{ThreadRecord}
 use Rattle.schedule.specs.declared.record.Record.{Record}
 use Rattle.schedule.specs.declared.record.Replied.{Replied}
-use Rattle.schedule.specs.declared.refusal.Refusal.{Refusal}
-use Rattle.schedule.specs.declared.refusal.Reply.{Reply}
-use Rattle.schedule.specs.declared.refusal.Reply.the-variants as reply
+use Rattle.places.specs.declared.refusal.Refusal.{Refusal}
+use Rattle.places.specs.declared.refusal.Reply.{Reply}
+use Rattle.places.specs.declared.refusal.Reply.the-variants as reply
 
 abbrev pub threadAt : Place → ThreadRecord
 threadAt p = record { place = p }

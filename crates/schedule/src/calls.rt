@@ -2,14 +2,14 @@
 ghost use mathlib.Core.Path.{_≡_};
 ghost use Rattle.schedule.specs.Form.{InForm};
 ghost use Rattle.schedule.specs.Calls.{begun, begunInForm, stepped, steppedInForm, advanced, advancedInForm, taken, takenInForm};
-use crate::begin;
-use crate::begin::Start;
-use crate::record::Place;
 use crate::record::Record;
 use crate::record::Replied;
-use crate::refusal::Refusal;
-use crate::refusal::Reply;
 use channel::answer::Tick;
+use places::begin;
+use places::begin::Start;
+use places::place::Place;
+use places::refusal::Refusal;
+use places::refusal::Reply;
 use waker::context::Thread;
 
 /// How many steps a record may make.

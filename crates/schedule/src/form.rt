@@ -2,22 +2,21 @@
 ghost use mathlib.Core.Path.{_≡_};
 ghost use Prim.Native.Nat.{_<_};
 ghost use Rattle.waker.specs.Context.{threads};
-ghost use Rattle.schedule.specs.FormSaved.{Measured};
+ghost use Rattle.places.specs.FormSaved.{Measured};
 ghost use Rattle.schedule.specs.Form.{boundsHold, arrayInForm, zeroInForm, flavourInForm, slotsInForm, queuesInForm, isIdle, counted, placeInForm, partnerInForm, standsInForm, threadInForm, threadsInForm, inForm, Shaped, Short};
 use crate::calls::CLOCK_LIMIT;
 use crate::calls::STEP_LIMIT;
-use crate::form::waits::Partner;
-use crate::record::Flavour;
-use crate::record::Place;
 use crate::record::Record;
 use channel::position::SLOTS;
 use channel::position::Shape;
+use places::place::Flavour;
+use places::place::Place;
+use places::saved;
+use places::waits;
+use places::waits::Partner;
 use waker::context::THREADS;
 use waker::context::Thread;
 use waker::wakers::Side;
-
-pub mod saved;
-pub mod waits;
 
 /// Is the thread idle?
 fn is_idle(place: Place) -> bool

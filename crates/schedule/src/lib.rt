@@ -1,7 +1,5 @@
 //! The record of 01, its form, and its public calls.
-pub mod begin;
 pub mod calls;
 pub mod form;
 pub mod making;
 pub mod record;
-pub mod refusal;

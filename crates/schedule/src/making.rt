@@ -4,18 +4,18 @@ ghost use Prim.Native.Nat.{_≤_};
 ghost use Rattle.channel.specs.Position.{slots};
 ghost use Rattle.schedule.specs.Record.{refusedWith};
 ghost use Rattle.schedule.specs.Making.{zeroRecord, freshArrayRecord, freshZeroRecord, madeFor, madeArray, madeZero};
-use crate::record::Flavour;
-use crate::record::Place;
 use crate::record::Record;
 use crate::record::Replied;
 use crate::record::ThreadRecord;
-use crate::refusal::Refusal;
-use crate::refusal::Reply;
 use channel::answer::Tick;
 use channel::array::Array;
 use channel::position::SLOTS;
 use channel::position::Shape;
 use channel::zero::Zero;
+use places::place::Flavour;
+use places::place::Place;
+use places::refusal::Refusal;
+use places::refusal::Reply;
 use waker::context::THREADS;
 
 impl Record {

@@ -3,34 +3,19 @@ ghost use mathlib.Core.Path.{_≡_};
 ghost use Prim.Native.Nat.{_<_};
 ghost use Rattle.waker.specs.Context.{threads};
 ghost use Rattle.schedule.specs.Record.{placeOf, withThread, refusedWith, afterArray, afterZero, placeAfterArray, placeAfterZero};
-use crate::refusal::Refusal;
-use crate::refusal::Reply;
-use channel::answer::Answer;
 use channel::answer::Tick;
 use channel::array::Array;
 use channel::array::ArrayStepped;
-use channel::array::call::ArrayCall;
 use channel::array::outcome::ArrayNext;
 use channel::position::Shape;
 use channel::zero::Zero;
 use channel::zero::ZeroStepped;
-use channel::zero::call::ZeroCall;
 use channel::zero::outcome::ZeroNext;
+use places::place::Flavour;
+use places::place::Place;
+use places::refusal::Refusal;
+use places::refusal::Reply;
 use waker::context::THREADS;
-
-/// Which channel a record holds.
-pub enum Flavour {
-    Zero,
-    Array,
-}
-
-/// Where a thread stands: idle, in its call with what that call has saved, or with an answer not taken.
-pub enum Place {
-    Idle,
-    Array(ArrayCall),
-    Zero(ZeroCall),
-    Done(Answer),
-}
 
 /// A thread's record.
 pub struct ThreadRecord {

@@ -5,13 +5,13 @@ ghost use Rattle.playback.specs.Trace.{shownRoom};
 use input::Input;
 use libc::STDERR_FILENO;
 use libc::STDOUT_FILENO;
+use places::refusal::Refusal;
+use places::refusal::Reply;
 use playback::held::Held;
 use playback::reply;
 use playback::run::TEXT_LIMIT;
 use playback::trace;
 use playback::trace::SHOWN;
-use schedule::refusal::Refusal;
-use schedule::refusal::Reply;
 use text::frame;
 use text::lines;
 

@@ -2,7 +2,7 @@
 use mathlib.Core.Path.{sym, _∙_}
 use borrow.Author.Tests.{not-true, not-false}
 use Rattle.schedule.specs.Form.{inForm}
-use Rattle.schedule.proofs.TestLaws.{and-stops, and-goes}
+use Rattle.places.proofs.TestLaws.{and-stops, and-goes}
 use Rattle.schedule.proofs.FormLaws.{fitting, measured, short}
 use Rattle.schedule.proofs.record.Record.in_form.Statement.{statement}
 use Rattle.schedule.proofs.record.Record.in_form.Tie as tie

@@ -1,0 +1,4 @@
+pub mod TestLaws
+pub mod TimesLaws
+pub mod FormSavedLaws
+pub mod FormWaitsLaws

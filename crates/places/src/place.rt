@@ -1,0 +1,18 @@
+//! Where a thread stands.
+use channel::answer::Answer;
+use channel::array::call::ArrayCall;
+use channel::zero::call::ZeroCall;
+
+/// Which channel a record holds.
+pub enum Flavour {
+    Zero,
+    Array,
+}
+
+/// Where a thread stands: idle, in its call with what that call has saved, or with an answer not taken.
+pub enum Place {
+    Idle,
+    Array(ArrayCall),
+    Zero(ZeroCall),
+    Done(Answer),
+}

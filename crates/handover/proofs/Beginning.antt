@@ -14,7 +14,7 @@ use Rattle.channel.specs.declared.zero.Zero.{Zero as Memory}
 use Rattle.channel.specs.declared.answer.Tick.{Tick}
 use Rattle.channel.specs.declared.answer.Answer.{Answer}
 use Rattle.schedule.specs.Record.{placeOf, withThread}
-use Rattle.schedule.specs.History.{Act, begins, takes, Moment}
+use Rattle.schedule.specs.History.{Act, begins, takes, Moment, updated}
 use Rattle.places.specs.Begin.{codeOf, startedZero}
 use Rattle.places.specs.FormWaits.{awaits}
 use Rattle.places.specs.declared.begin.Code.{Code}
@@ -63,6 +63,7 @@ module _ (M : Moment Past) (I : Inv M) where
           word = keeps (ap (λ (z : Memory). wordOf (z .wakers) (thread u)) e);
           packet = ap (λ (z : Memory). packetAt z (thread u)) e;
           ahead = λ σ q. rw e (omega arith);
+          code = refl;
           carried = refl;
           deadline = refl;
           entries = refl;
@@ -94,17 +95,20 @@ module _ (M : Moment Past) (I : Inv M) where
     abbrev after : Code → Moment Past
     after c = record { now = withThread (M .now) (t .0) p; past = begunCall (M .past) (t .0) c m (d .0) }
 
+    begun : {A : Type 0} (f : ℕ → A) (x : A) → updated f (t .0) x (t .0) ≡ x
+    begun f x = updated-here f (t .0) x
+
     opens : (c : Code) → startedZero c m d ≡ At p → AtPlace (after c) (t .0) p
     opens Unknown e = absurd (never p e)
-    opens TrySend e = rw (← begun-at d _ p e) (updated-here _ (t .0) _, sym (updated-here _ (t .0) _), tt)
-    opens TryReceive e = rw (← begun-at d _ p e) (updated-here _ (t .0) _, sym (updated-here _ (t .0) _), tt)
-    opens Send e = rw (← at-place _ p e) (updated-here _ (t .0) _, sym (updated-here _ (t .0) _), sym (updated-here _ (t .0) _))
-    opens Receive e = rw (← at-place _ p e) (updated-here _ (t .0) _, sym (updated-here _ (t .0) _), sym (updated-here _ (t .0) _))
-    opens Len e = rw (← begun-at d _ p e) tt
-    opens IsEmpty e = rw (← begun-at d _ p e) tt
-    opens IsFull e = rw (← begun-at d _ p e) tt
-    opens IsDisconnected e = rw (← begun-at d _ p e) tt
-    opens Disconnect e = rw (← begun-at d _ p e) tt
+    opens TrySend e = rw (← begun-at d _ p e) (begun _ _, sym (begun _ _), begun _ _)
+    opens TryReceive e = rw (← begun-at d _ p e) (begun _ _, sym (begun _ _), begun _ _)
+    opens Send e = rw (← at-place _ p e) (begun _ _, sym (begun _ _), (begun _ _, sym (begun _ _)))
+    opens Receive e = rw (← at-place _ p e) (begun _ _, sym (begun _ _), (begun _ _, sym (begun _ _)))
+    opens Len e = rw (← begun-at d _ p e) (begun _ _, begun _ _)
+    opens IsEmpty e = rw (← begun-at d _ p e) (begun _ _, begun _ _)
+    opens IsFull e = rw (← begun-at d _ p e) (begun _ _, begun _ _)
+    opens IsDisconnected e = rw (← begun-at d _ p e) (begun _ _, begun _ _)
+    opens Disconnect e = rw (← begun-at d _ p e) (begun _ _, begun _ _)
 
     pub begin-all : (c : ℕ) → t .0 < M .now .count → placeOf (M .now) (t .0) ≡ Idle → startedZero (codeOf c) m d ≡ At p →
         Kept M (after (codeOf c)) (begins t c m d)
@@ -116,6 +120,7 @@ module _ (M : Moment Past) (I : Inv M) where
           word = keeps refl;
           packet = refl;
           ahead = λ σ l. omega arith;
+          code = updated-else _ (t .0) _ u n;
           carried = updated-else _ (t .0) _ u n;
           deadline = updated-else _ (t .0) _ u n;
           entries = refl;

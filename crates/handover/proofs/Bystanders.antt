@@ -59,6 +59,7 @@ module _ (M : Moment Past) (t : Thread) (k : ZeroCall) (at : placeOf (M .now) (t
 
   -- What is remembered of a bystander.
   record Recalls (g : Past) : Type 0 where
+    code : g .code u ≡ h .code u
     carried : g .carried u ≡ h .carried u
     deadline : g .deadline u ≡ h .deadline u
     entries : g .entries u ≡ h .entries u
@@ -71,12 +72,14 @@ module _ (M : Moment Past) (t : Thread) (k : ZeroCall) (at : placeOf (M .now) (t
   mine f x = updated-else f (t .0) x u apart
 
   plainly : Recalls (plain (M .now) h (t .0) k)
-  plainly = record { carried = refl; deadline = refl; entries = refl; opposed = refl; pairs = refl; since = mine _ _ }
+  plainly =
+      record { code = refl; carried = refl; deadline = refl; entries = refl; opposed = refl; pairs = refl; since = mine _ _ }
 
   recalls : (e : ZeroEffect) → Spares k e u → Recalls (brought (M .now) h (t .0) k e)
   recalls effect.Nothing s = plainly
   recalls (effect.Pick σ v) s =
       record {
+        code = refl;
         carried = refl;
         deadline = refl;
         entries = refl;
@@ -85,11 +88,19 @@ module _ (M : Moment Past) (t : Thread) (k : ZeroCall) (at : placeOf (M .now) (t
         since = mine _ _;
       }
   recalls (effect.Join o) s =
-      record { carried = refl; deadline = refl; entries = mine _ _; opposed = mine _ _; pairs = refl; since = refl }
+      record { code = refl; carried = refl; deadline = refl; entries = mine _ _; opposed = mine _ _; pairs = refl; since = refl }
   recalls (effect.PutMessage v m) s = plainly
   recalls (effect.TakeMessage v) s = plainly
   recalls (effect.SetReady v) s =
-      record { carried = refl; deadline = refl; entries = refl; opposed = refl; pairs = refl; since = updated-else _ (v .0) _ u s }
+      record {
+        code = refl;
+        carried = refl;
+        deadline = refl;
+        entries = refl;
+        opposed = refl;
+        pairs = refl;
+        since = updated-else _ (v .0) _ u s;
+      }
   recalls (effect.Abort σ) s = plainly
   recalls (effect.GiveUp σ) s = plainly
   recalls (effect.Leave σ) s = plainly
@@ -172,6 +183,7 @@ module _ (M : Moment Past) (t : Thread) (k : ZeroCall) (at : placeOf (M .now) (t
           word = L .word;
           packet = L .packet;
           ahead = L .ahead;
+          code = R .code;
           carried = R .carried;
           deadline = R .deadline;
           entries = R .entries;

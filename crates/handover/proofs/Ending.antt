@@ -2,6 +2,7 @@
 use Prim.Native.Nat.{ℕ, suc, _<_, _≤_}
 use mathlib.Core.Path.{_≡_, refl, sym, ap, _∙_}
 use mathlib.Core.Bool.{true}
+use mathlib.Core.Logic.{inr}
 use mathlib.Core.List.{[], _∷_}
 use native.Mathlib.Omega.{arith}
 use lib.Dec.{leb}
@@ -28,9 +29,9 @@ use Rattle.places.specs.declared.place.Place.the-variants.{Zero}
 use Rattle.grown.proofs.Tests.{clash}
 use Rattle.grown.proofs.Departures.{unlike}
 use Rattle.grown.proofs.Scene.{Scene, my-word, my-packet}
-use Rattle.handover.specs.Meetings.{Past, pairOf, wordAt, packetOf}
+use Rattle.handover.specs.Meetings.{Past, waitCode, pairOf, wordAt, packetOf}
 use Rattle.handover.specs.Statement.{Tells}
-use Rattle.handover.proofs.Inv.{Holding, Chosen, Waiter, CutOff, AtWait, AtLeave, Inv}
+use Rattle.handover.proofs.Inv.{Holding, Chosen, Waiter, CutOff, AtLeave, AtCall, Inv}
 use Rattle.handover.proofs.Updates.{updated-here}
 use Rattle.handover.proofs.Moments.{stepTo, either, stage}
 use Rattle.handover.proofs.Keeping.{After, unnamed, alone, quiet}
@@ -51,7 +52,7 @@ module _ (M : Moment Past) (I : Inv M) (t : Thread) (there : t .0 < M .now .coun
   H = stage M (I .kept) t there
 
   module _ (d : Tick) (at : placeOf (M .now) (t .0) ≡ Zero (Wait σ d)) where
-    mine : (d .0 ≡ M .past .deadline (t .0)) × AtWait M (t .0) σ (wordAt (M .now) (t .0))
+    mine : AtCall M (t .0) (Wait σ d)
     mine = rw at at (I .self (t .0))
 
     -- It turns to leave: its deadline is over,
@@ -62,13 +63,15 @@ module _ (M : Moment Past) (I : Inv M) (t : Thread) (there : t .0 < M .now .coun
         After M I t there (Wait σ d) at late
     aborts w over =
         alone M I t there (Wait σ d) at late (λ u. tt) (λ u τ c n W. refl)
-        (λ τ a p r. absurd (unlike p (rw w)))
-        (rw (my-word _ _ t H (M .now .zero .wakers .contexts) (trySelected (wordAt (M .now) (t .0)) word.Aborted) refl, w)
-        (record {
-          unpaired = W .unpaired;
-          holding = held M (stepTo M t (Wait σ d) late) (t .0) σ (my-packet _ _ t H _) refl (W .holding);
-          late = omega (arith, mine .0);
-        }))
+        (λ τ a p r. absurd (unlike p (rw w))) (
+          mine .0 .0,
+          rw (my-word _ _ t H (M .now .zero .wakers .contexts) (trySelected (wordAt (M .now) (t .0)) word.Aborted) refl, w)
+              (record {
+                unpaired = W .unpaired;
+                holding = held M (stepTo M t (Wait σ d) late) (t .0) σ (my-packet _ _ t H _) refl (W .holding);
+                late = omega (arith, mine .0 .1);
+              }),
+        )
       where
         W : Waiter M (t .0) σ
         W = rw w at (mine .1)
@@ -80,13 +83,15 @@ module _ (M : Moment Past) (I : Inv M) (t : Thread) (there : t .0 < M .now .coun
     gives-up : wordAt (M .now) (t .0) ≡ word.Disconnected → After M I t there (Wait σ d) at cut
     gives-up w =
         alone M I t there (Wait σ d) at cut (λ u. tt) (λ u τ c n W. refl)
-        (λ τ a p r. absurd (unlike p (rw w)))
-        (rw w
-        (record {
-          unpaired = C .unpaired;
-          holding = held M (stepTo M t (Wait σ d) cut) (t .0) σ (my-packet _ _ t H _) refl (C .holding);
-          flag = C .flag;
-        }))
+        (λ τ a p r. absurd (unlike p (rw w))) (
+          mine .0 .0,
+          rw w
+              (record {
+                unpaired = C .unpaired;
+                holding = held M (stepTo M t (Wait σ d) cut) (t .0) σ (my-packet _ _ t H _) refl (C .holding);
+                flag = C .flag;
+              }),
+        )
       where
         C : CutOff M (t .0) σ
         C = rw w at (mine .1)
@@ -108,6 +113,7 @@ module _ (M : Moment Past) (I : Inv M) (t : Thread) (there : t .0 < M .now .coun
             quiet M I t there (Wait σ d) at (Goes (ReadyWait σ)) (λ u τ c n W. refl) (
               u,
               m,
+              mine .0 .0,
               record {
                 pair = C .pair;
                 own = C .own;
@@ -125,25 +131,25 @@ module _ (M : Moment Past) (I : Inv M) (t : Thread) (there : t .0 < M .now .coun
 
   module _ (at : placeOf (M .now) (t .0) ≡ Zero (ReadyWait σ)) where
     -- The mark is set: what passed is the message of the pair.
-    met : (ρ : Side) (u m : ℕ) → Chosen M (t .0) ρ u m 1 → packetOf (M .now) (t .0) .ready ≡ true →
-        Tells M (t .0) (metBy ρ (packetOf (M .now) (t .0) .message))
-    met Sender u m C r = (u, C .pair ∙ ap (λ (x : ℕ). pairOf u x ∷ []) (C .own refl))
-    met Receiver u m C r = (u, C .pair ∙ ap (λ (x : ℕ). pairOf u x ∷ []) (sym (C .message r refl)))
+    met : (ρ : Side) (u m : ℕ) → M .past .code (t .0) ≡ waitCode ρ → Chosen M (t .0) ρ u m 1 →
+        packetOf (M .now) (t .0) .ready ≡ true → Tells M (t .0) (metBy ρ (packetOf (M .now) (t .0) .message))
+    met Sender u m c C r = (inr c, (u, C .pair ∙ ap (λ (x : ℕ). pairOf u x ∷ []) (C .own refl)))
+    met Receiver u m c C r = (inr c, (u, C .pair ∙ ap (λ (x : ℕ). pairOf u x ∷ []) (sym (C .message r refl))))
 
     pub ready-step : After M I t there (ReadyWait σ) at (readyWaitStep σ (packetOf (M .now) (t .0)))
     ready-step = go (rw at at (I .self (t .0)))
       where
-        go : (u m : ℕ) × Chosen M (t .0) σ u m 1 →
-            After M I t there (ReadyWait σ) at (readyWaitStep σ (packetOf (M .now) (t .0)))
-        go (u, m, C) =
+        go : AtCall M (t .0) (ReadyWait σ) → After M I t there (ReadyWait σ) at (readyWaitStep σ (packetOf (M .now) (t .0)))
+        go (u, m, c, C) =
             either (After M I t there (ReadyWait σ) at) (packetOf (M .now) (t .0) .ready)
             (λ b.
             alone M I t there (ReadyWait σ) at (writes effect.Clear (Ends (metBy σ (packetOf (M .now) (t .0) .message))))
-            (λ u. tt) (λ u τ c n W. refl) (λ τ a p r. absurd (clash (sym b ∙ r))) (met σ u m C b))
+            (λ u. tt) (λ u τ c n W. refl) (λ τ a p r. absurd (clash (sym b ∙ r))) (met σ u m c C b))
             (λ b.
             quiet M I t there (ReadyWait σ) at (Goes (ReadyWait σ)) (λ u τ c n W. refl) (
               u,
               m,
+              c,
               record {
                 pair = C .pair;
                 own = C .own;
@@ -153,11 +159,14 @@ module _ (M : Moment Past) (I : Inv M) (t : Thread) (there : t .0 < M .now .coun
             ))
 
   module _ (at : placeOf (M .now) (t .0) ≡ Zero (Leave σ)) where
+    at-leave : AtCall M (t .0) (Leave σ)
+    at-leave = rw at at (I .self (t .0))
+
     left : (w : Selected) → AtLeave M (t .0) σ w → Tells M (t .0) (leftFor σ w (packetOf (M .now) (t .0) .message))
     left word.Waiting L = absurd L
     left word.Picked L = absurd L
-    left word.Aborted L = (L .unpaired, comes-back M (t .0) σ (L .holding), L .late)
-    left word.Disconnected L = (L .unpaired, comes-back M (t .0) σ (L .holding), L .flag)
+    left word.Aborted L = ((σ, at-leave .0), L .unpaired, comes-back M (t .0) σ (L .holding), L .late)
+    left word.Disconnected L = ((σ, inr (at-leave .0)), L .unpaired, comes-back M (t .0) σ (L .holding), L .flag)
 
     abbrev leaving : Selected → ZeroOutcome
     leaving w = leaveStep σ w (packetOf (M .now) (t .0) .message)
@@ -165,4 +174,4 @@ module _ (M : Moment Past) (I : Inv M) (t : Thread) (there : t .0 < M .now .coun
     pub leave-step : (w : Selected) → wordAt (M .now) (t .0) ≡ w → After M I t there (Leave σ) at (leaving w)
     leave-step w e =
         alone M I t there (Leave σ) at (leaving w) (λ u. tt) (λ u τ c n W. refl)
-        (unnamed M I t there (Leave σ) at (leaving w) (λ τ. refl)) (left w (rw (at, e) at (I .self (t .0))))
+        (unnamed M I t there (Leave σ) at (leaving w) (λ τ. refl)) (left w (rw e at (at-leave .1)))

@@ -7,7 +7,7 @@ use Rattle.waker.specs.Wakers.{otherSide}
 use Rattle.waker.specs.declared.context.Thread.{Thread}
 use Rattle.waker.specs.declared.waker.Found.{Found}
 use Rattle.waker.specs.declared.waker.Found.the-variants.{Nobody, At}
-use Rattle.channel.specs.ZeroOutcome.{writes}
+use Rattle.channel.specs.ZeroOutcome.{writes, ends}
 use Rattle.channel.specs.ZeroSteps.{sideOf, firstStep, askStep}
 use Rattle.channel.specs.Zero.{outcomeOf}
 use Rattle.channel.specs.declared.answer.Answer.{Answer}
@@ -24,8 +24,8 @@ use Rattle.schedule.specs.Record.{placeOf}
 use Rattle.schedule.specs.History.{Moment}
 use Rattle.places.specs.declared.place.Place.the-variants.{Zero}
 use Rattle.handover.specs.Meetings.{Past}
-use Rattle.handover.specs.Statement.{queueAt, Tells}
-use Rattle.handover.proofs.Inv.{Inv}
+use Rattle.handover.specs.Statement.{queueAt, Unpaired, Asks, Tells}
+use Rattle.handover.proofs.Inv.{AtCall, Inv}
 use Rattle.handover.proofs.Moments.{stepTo, either}
 use Rattle.handover.proofs.Keeping.{After, unnamed, alone, quiet}
 use Rattle.handover.proofs.Joining.{nobody-step}
@@ -41,25 +41,37 @@ module _ (M : Moment Past) (I : Inv M) (t : Thread) (there : t .0 < M .now .coun
   first-step o l at Nobody f = nobody-step M I t there o f l at
 
   module _ (q : Question) (at : placeOf (M .now) (t .0) ≡ Zero (Ask q)) where
+    mine : AtCall M (t .0) (Ask q)
+    mine = rw at at (I .self (t .0))
+
+    asks : Asks M (t .0) × Unpaired M (t .0)
+    asks = ((q, mine .0), mine .1)
+
     answers : (a : Answer) → Tells (stepTo M t (Ask q) (writes effect.Nothing (Ends a))) (t .0) a →
         After M I t there (Ask q) at (writes effect.Nothing (Ends a))
     answers a h = quiet M I t there (Ask q) at (Ends a) (λ u σ d n W. refl) h
+
+    yes : After M I t there (Ask q) at (ends Yes)
+    yes = answers Yes asks
+
+    no : After M I t there (Ask q) at (ends No)
+    no = answers No asks
 
   disconnects : (at : placeOf (M .now) (t .0) ≡ Zero (Ask ask.Disconnect)) →
       After M I t there (Ask ask.Disconnect) at (writes effect.Disconnect (Ends Yes))
   disconnects at =
       alone M I t there (Ask ask.Disconnect) at (writes effect.Disconnect (Ends Yes)) (λ u. refl) (λ u σ d n W. refl)
-      (unnamed M I t there (Ask ask.Disconnect) at (writes effect.Disconnect (Ends Yes)) (λ τ. refl)) tt
+      (unnamed M I t there (Ask ask.Disconnect) at (writes effect.Disconnect (Ends Yes)) (λ τ. refl)) (asks ask.Disconnect at)
 
   ask-step : (q : Question) (at : placeOf (M .now) (t .0) ≡ Zero (Ask q)) (b : Bool) → After M I t there (Ask q) at (askStep q b)
-  ask-step ask.Len at b = answers ask.Len at (Number 0) tt
-  ask-step ask.IsEmpty at b = answers ask.IsEmpty at Yes tt
-  ask-step ask.IsFull at b = answers ask.IsFull at Yes tt
+  ask-step ask.Len at b = answers ask.Len at (Number 0) (mine ask.Len at)
+  ask-step ask.IsEmpty at b = yes ask.IsEmpty at
+  ask-step ask.IsFull at b = yes ask.IsFull at
   ask-step ask.IsDisconnected at b =
-      either (After M I t there (Ask ask.IsDisconnected) at) b (λ g. answers ask.IsDisconnected at Yes tt)
-      (λ g. answers ask.IsDisconnected at No tt)
+      either (After M I t there (Ask ask.IsDisconnected) at) b (λ g. yes ask.IsDisconnected at)
+      (λ g. no ask.IsDisconnected at)
   ask-step ask.Disconnect at b =
-      either (After M I t there (Ask ask.Disconnect) at) b (λ g. answers ask.Disconnect at No tt) (λ g. disconnects at)
+      either (After M I t there (Ask ask.Disconnect) at) b (λ g. no ask.Disconnect at) (λ g. disconnects at)
 
   pub every-step : (k : ZeroCall) (at : placeOf (M .now) (t .0) ≡ Zero k) →
       After M I t there k at (outcomeOf (M .now .zero) t (M .now .clock) k)

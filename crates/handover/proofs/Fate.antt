@@ -71,8 +71,8 @@ module _ (M : Moment Past) (I : Inv M) where
         go : Word (Cut M a (N .now .zero .disconnected)) (wordAt (M .now) t) (wordAt (N .now) t) → Fate M N a t σ d
         go (keeps e) = waits-on (record { place = S .place ∙ W .place; word = e ∙ W .word })
         go (cuts e f C) = cut-off (C .who) (C .does) (C .place) f
-    other a N (picks u o l e at q w x) =
-        record { fate = is-picked u o l e at (opposite o q) x; fewer = λ still. absurd (unlike x (rw (still .word))) }
+    other a N (picks u o l e at q w g x) =
+        record { fate = is-picked u o l e at (opposite o q) g x; fewer = λ still. absurd (unlike x (rw (still .word))) }
     other a N (serves u ρ e p) = absurd (unlike (named M I (u .0) ρ (thread t) p .word) (rw (W .word)))
 
     module _ (there : t < M .now .count) where
@@ -144,7 +144,7 @@ module _ (M : Moment Past) (I : Inv M) where
 
       go : Touch M (next rule M a) a t → Untouched M (next rule M a) t
       go (spares S) = unturned S (S .word)
-      go (picks u o l e at q w x) = absurd (unlike picked (rw w))
+      go (picks u o l e at q w g x) = absurd (unlike picked (rw w))
       go (serves u ρ e p) =
           let s : ρ ≡ σ = awaits-once ρ σ (placeOf (M .now) t) (named M I (u .0) ρ (thread t) p .waits) runs in
           absurd (partner u e (p ∙ ap (λ (τ : Side). Of τ (thread t)) s))

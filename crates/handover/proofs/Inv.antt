@@ -3,12 +3,13 @@ use Prim.Native.Nat.{ℕ, _+_, _≤_}
 use mathlib.Core.Path.{_≡_}
 use mathlib.Core.Bool.{true}
 use mathlib.Core.List.{[], _∷_}
+use Rattle.waker.specs.Wakers.{otherSide}
 use Rattle.waker.specs.declared.context.Thread.{Thread}
 use Rattle.waker.specs.declared.context.Selected.{Selected}
 use Rattle.waker.specs.declared.context.Selected.the-variants as word
 use Rattle.waker.specs.declared.wakers.Side.{Side}
 use Rattle.waker.specs.declared.wakers.Side.the-variants.{Sender, Receiver}
-use Rattle.channel.specs.ZeroSteps.{messageOf}
+use Rattle.channel.specs.ZeroSteps.{sideOf, messageOf}
 use Rattle.channel.specs.declared.zero.call.Limit.{Limit}
 use Rattle.channel.specs.declared.zero.call.Limit.the-variants.{Try, Until}
 use Rattle.channel.specs.declared.zero.call.ZeroCall.{ZeroCall}
@@ -18,8 +19,8 @@ use Rattle.schedule.specs.History.{Moment}
 use Rattle.places.specs.declared.place.Place.{Place}
 use Rattle.places.specs.declared.place.Place.the-variants.{Idle, Array, Zero, Done}
 use Rattle.grown.proofs.ZeroKept.{KeptZero}
-use Rattle.handover.specs.Meetings.{Past, pairOf, senderOf, wordAt, packetOf}
-use Rattle.handover.specs.Statement.{queueAt, aheadOf, Tells, Unpaired}
+use Rattle.handover.specs.Meetings.{Past, tryCode, waitCode, askCode, pairOf, senderOf, wordAt, packetOf}
+use Rattle.handover.specs.Statement.{queueAt, aheadOf, OnSide, Tells, Unpaired}
 
 module _ (M : Moment Past) (t : ℕ) where
   -- A send's packet holds what it carries; a receive carries nothing.
@@ -27,13 +28,14 @@ module _ (M : Moment Past) (t : ℕ) where
   Holding Sender = packetOf (M .now) t .message ≡ M .past .carried t
   Holding Receiver = M .past .carried t ≡ 0
 
-  -- A call that may yet wait knows its deadline.
-  abbrev pub Limited : Limit → Type 0
-  Limited Try = Unit
-  Limited (Until d) = d .0 ≡ M .past .deadline t
+  -- A send's or receive's code is of its side; one that may wait knows its deadline.
+  abbrev pub Limited : Side → Limit → Type 0
+  Limited σ Try = M .past .code t ≡ tryCode σ
+  Limited σ (Until d) = (M .past .code t ≡ waitCode σ) × (d .0 ≡ M .past .deadline t)
 
   -- t and v, of side σ, are each other's only partner, with m the message of the one that sends; t has made n steps since it picked.
   pub record Joint (σ : Side) (v : Thread) (m n : ℕ) : Type 0 where
+    pub code : OnSide M t (otherSide σ)
     pub mine : M .past .pairs t ≡ pairOf (v .0) m ∷ []
     pub theirs : M .past .pairs (v .0) ≡ pairOf t m ∷ []
     pub sent : m ≡ M .past .carried (senderOf σ t (v .0))
@@ -75,15 +77,15 @@ module _ (M : Moment Past) (t : ℕ) where
   AtLeave σ word.Disconnected = CutOff σ
 
   abbrev pub AtCall : ZeroCall → Type 0
-  AtCall (First o l) = Unpaired M t × (messageOf o ≡ M .past .carried t) × Limited l
+  AtCall (First o l) = Unpaired M t × (messageOf o ≡ M .past .carried t) × Limited (sideOf o) l
   AtCall (Put v m) = Joint Receiver v m 0
   AtCall (PutReady v) = Joint Receiver v (packetOf (M .now) (v .0) .message) 1
   AtCall (Take v) = Joint Sender v (packetOf (M .now) (v .0) .message) 0
   AtCall (TakeReady v m) = Joint Sender v m 1
-  AtCall (Wait σ d) = (d .0 ≡ M .past .deadline t) × AtWait σ (wordAt (M .now) t)
-  AtCall (ReadyWait σ) = (u m : ℕ) × Chosen σ u m 1
-  AtCall (Leave σ) = AtLeave σ (wordAt (M .now) t)
-  AtCall (Ask q) = Unit
+  AtCall (Wait σ d) = Limited σ (Until d) × AtWait σ (wordAt (M .now) t)
+  AtCall (ReadyWait σ) = (u m : ℕ) × (M .past .code t ≡ waitCode σ) × Chosen σ u m 1
+  AtCall (Leave σ) = (M .past .code t ≡ waitCode σ) × AtLeave σ (wordAt (M .now) t)
+  AtCall (Ask q) = (M .past .code t ≡ askCode q) × Unpaired M t
 
   abbrev pub AtPlace : Place → Type 0
   AtPlace Idle = Unit

@@ -35,13 +35,13 @@ use Rattle.places.specs.declared.place.Place.the-variants.{Zero}
 use Rattle.grown.proofs.Scene.{Scene, my-word, my-packet, absent}
 use Rattle.grown.proofs.ZeroMemory.{same-words, list-here}
 use Rattle.handover.specs.Meetings.{Past, opposedAfter, packetOf}
-use Rattle.handover.specs.Statement.{queueAt, aheadOf, Registered, Unpaired, Tells}
-use Rattle.handover.proofs.Inv.{Holding, Limited, Inv}
+use Rattle.handover.specs.Statement.{queueAt, aheadOf, Registered, Tells}
+use Rattle.handover.proofs.Inv.{Holding, AtCall, Inv}
 use Rattle.handover.proofs.Updates.{updated-here}
 use Rattle.handover.proofs.Queues.{ahead-joined, oldest-none}
 use Rattle.handover.proofs.Sides.{one-side}
 use Rattle.handover.proofs.Moments.{stepTo, either, stage, stands-at}
-use Rattle.handover.proofs.Waiters.{queued}
+use Rattle.handover.proofs.Waiters.{queued, on-side}
 use Rattle.handover.proofs.Keeping.{After, Flat, unnamed, alone, quiet}
 
 -- What a waiter's new packet holds.
@@ -55,13 +55,20 @@ module _ (M : Moment Past) (I : Inv M) (t : Thread) (there : t .0 < M .now .coun
   abbrev joining : ZeroOutcome
   joining = writes (effect.Join o) (Goes (Wait (sideOf o) d))
 
-  abbrev joined : Moment Past
+  abbrev pub joined : Moment Past
   joined = stepTo M t (First o (Until d)) joining
 
-  pub registered : (c : Tick) → placeOf (joined .now) (t .0) ≡ Zero (Wait (sideOf o) c) → Registered M joined t (sideOf o) c
-  registered c e =
+  pub at-wait : placeOf (joined .now) (t .0) ≡ Zero (Wait (sideOf o) d)
+  at-wait = stands-at M (I .kept) t there (First o (Until d)) joining
+
+  pub registered : Registered M joined t (sideOf o) d
+  registered =
       record {
-        waits = record { place = e; word = my-word _ _ t (stage M (I .kept) t there) _ word.Waiting (same-words w σ (queueOf q)) };
+        waits =
+            record {
+              place = at-wait;
+              word = my-word _ _ t (stage M (I .kept) t there) _ word.Waiting (same-words w σ (queueOf q));
+            };
         last = list-here w σ (queueOf q) _ ∙ entries-queueOf q;
         entries = updated-here (M .past .entries) (t .0) _;
         unopposed = updated-here (opposedAfter (M .now) (M .past) (t .0) (First o (Until d))) (t .0) 0;
@@ -90,22 +97,19 @@ module _ (M : Moment Past) (I : Inv M) (t : Thread) (there : t .0 < M .now .coun
           absurd (oldest-none t (M .now .zero .wakers .contexts) u n (W .word) (queueAt (M .now) (otherSide (sideOf o))) f q)
       go false s = refl
 
-  abbrev Mine : Limit → Type 0
-  Mine l = Unpaired M (t .0) × (messageOf o ≡ M .past .carried (t .0)) × Limited M (t .0) l
-
-  mine : (l : Limit) → placeOf (M .now) (t .0) ≡ Zero (First o l) → Mine l
+  mine : (l : Limit) → placeOf (M .now) (t .0) ≡ Zero (First o l) → AtCall M (t .0) (First o l)
   mine l at = rw at at (I .self (t .0))
 
-  tells-nobody : (o : Offer) → Unpaired M (t .0) → messageOf o ≡ M .past .carried (t .0) → Tells M (t .0) (nobodyFor o)
-  tells-nobody (Send m) h e = (h, e)
-  tells-nobody Receive h e = h
+  tells-nobody : (o : Offer) → AtCall M (t .0) (First o Try) → Tells M (t .0) (nobodyFor o)
+  tells-nobody (Send m) (h, e, c) = (c, h, e)
+  tells-nobody Receive (h, e, c) = (c, h)
 
   module _ (d : Tick) (at : placeOf (M .now) (t .0) ≡ Zero (First o (Until d))) where
     abbrev N : Moment Past
     N = joined M I t there o d
 
     R : Registered M N t (sideOf o) d
-    R = registered M I t there o d d (stands-at M (I .kept) t there (First o (Until d)) (joining M I t there o d))
+    R = registered M I t there o d
 
     H : Scene (M .now .zero) (M .now .threads) t
     H = stage M (I .kept) t there
@@ -131,7 +135,7 @@ module _ (M : Moment Past) (I : Inv M) (t : Thread) (there : t .0 < M .now .coun
 
   alone-step : (l : Limit) (at : placeOf (M .now) (t .0) ≡ Zero (First o l)) → After M I t there (First o l) at (aloneStep o l)
   alone-step Try at =
-      quiet M I t there (First o Try) at (Ends (nobodyFor o)) (flat Try at) (tells-nobody o (mine Try at .0) (mine Try at .1))
+      quiet M I t there (First o Try) at (Ends (nobodyFor o)) (flat Try at) (tells-nobody o (mine Try at))
   alone-step (Until d) at = joins d at
 
   -- Nobody found: it ends Disconnected if flagged, Full or Empty if it may not wait, and else joins its side's queue.
@@ -140,5 +144,6 @@ module _ (M : Moment Past) (I : Inv M) (t : Thread) (there : t .0 < M .now .coun
   nobody-step l at =
       either (After M I t there (First o l) at) (M .now .zero .disconnected)
       (λ b.
-      quiet M I t there (First o l) at (Ends (Disconnected (messageOf o))) (flat l at) (mine l at .0, mine l at .1, b))
+      quiet M I t there (First o l) at (Ends (Disconnected (messageOf o))) (flat l at)
+      ((sideOf o, on-side M (t .0) (sideOf o) l (mine l at .2)), mine l at .0, mine l at .1, b))
       (λ b. alone-step l at)

@@ -29,7 +29,7 @@ use Rattle.handover.proofs.Inv.{Chosen, AtPlace, Inv}
 use Rattle.handover.proofs.Moments.{stepTo, elsewhere, stands-at}
 use Rattle.handover.proofs.Touch.{Touch, spares, Kept}
 use Rattle.handover.proofs.Steady.{Mate, same-mate, Load, steady}
-use Rattle.handover.proofs.Waiters.{named, queued, picked-at}
+use Rattle.handover.proofs.Waiters.{named, queued, SameCall, picked-at}
 use Rattle.handover.proofs.Bystanders.{Spares, same, opposed-now}
 
 module _ (M : Moment Past) (I : Inv M) (t : Thread) (there : t .0 < M .now .count) (k : ZeroCall)
@@ -100,15 +100,15 @@ module _ (M : Moment Past) (I : Inv M) (t : Thread) (there : t .0 < M .now .coun
         (ours : (u : ℕ) (σ : Side) (x : Thread) → u ≢ t .0 → partnerOf (placeOf (M .now) u) ≡ Of σ x → x .0 ≢ v .0)
         (load : (u : ℕ) → u ≢ t .0 → u ≢ v .0 → Load M N (steps t) u) (touched : Touch M N (steps t) (v .0)) where
       pub partnered : Calm → awaits ρ (placeOf (M .now) (v .0)) ≡ true → wordAt (N .now) (v .0) ≡ word.Picked →
-          N .past .deadline (v .0) ≡ M .past .deadline (v .0) → Chosen N (v .0) ρ (t .0) m 0 →
+          SameCall M N (v .0) → Chosen N (v .0) ρ (t .0) m 0 →
           AtPlace N (t .0) (placeAfterZero (o .next)) → After o
-      partnered calm waits picked deadline C own =
+      partnered calm waits picked alike C own =
           together own (λ u n. go u n (ℕ-discrete u (v .0))) (λ u n. touches u n (ℕ-discrete u (v .0)))
         where
           go : (u : ℕ) → u ≢ t .0 → Dec (u ≡ v .0) → AtPlace N u (placeOf (N .now) u)
           go u n (yes e) =
               rw (elsewhere (M .now) (t .0) (placeAfterZero (o .next)) u n)
-              (rw e (picked-at M N (v .0) ρ (t .0) m C picked deadline (placeOf (M .now) (v .0)) waits (I .self (v .0))))
+              (rw e (picked-at M N (v .0) ρ (t .0) m C picked alike (placeOf (M .now) (v .0)) waits (I .self (v .0))))
           go u n (no f) = stays calm (λ y σ x away e. spared (x .0) (ours y σ x away e)) u n (spared u f) (load u n f)
 
           touches : (u : ℕ) → u ≢ t .0 → Dec (u ≡ v .0) → Touch M N (steps t) u

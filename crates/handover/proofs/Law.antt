@@ -32,7 +32,7 @@ loads u (Ask q) = inl refl
 pub holds : (M : Moment Past) → Inv M → Holds M
 holds M I =
     record {
-      registers = λ t o l d. registers M I t o d l;
+      registers = λ t o l σ d. registers M I t o σ d l;
       picks = picks M I;
       fewer = λ t σ d W a. goes-on M I t σ d W a .fewer;
       bound = λ t σ d W. waiter M I t σ d W .bound;

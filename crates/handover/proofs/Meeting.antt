@@ -173,5 +173,5 @@ module _ (M : Moment Past) (I : Inv M) where
         go (at-wait d e) =
             step-done M t (Wait σ d) e Met-by (λ there. waited there d _ e refl ((rw e at (I .self (t .0))) .1))
         go (at-ready e) =
-            let (u, m, C) : (u m : ℕ) × Chosen M (t .0) σ u m 1 = rw e at (I .self (t .0)) in
+            let (u, m, c, C) : AtCall M (t .0) (ReadyWait σ) = rw e at (I .self (t .0)) in
             step-done M t (ReadyWait σ) e Met-by (λ there. readied there u m C)

@@ -40,8 +40,8 @@ use Rattle.handover.proofs.Queues.{same-entry, oldest-least, oldest-non
 use Rattle.handover.proofs.Sides.{twice}
 use Rattle.handover.proofs.Moments.{stepTo, step-is, step-done, stands-at, either}
 use Rattle.handover.proofs.Waiters.{waiter, queued}
-use Rattle.handover.proofs.Joining.{registered}
-use Rattle.handover.proofs.Picking.{was, becomes, gone}
+use Rattle.handover.proofs.Joining.{joined, at-wait, registered}
+use Rattle.handover.proofs.Picking.{was, goes, becomes, gone}
 
 module _ (M : Moment Past) (I : Inv M) where
   abbrev z : Memory
@@ -50,41 +50,42 @@ module _ (M : Moment Past) (I : Inv M) where
   abbrev K : KeptZero (M .now)
   K = I .kept
 
-  module _ (t : Thread) (o : Offer) (d : Tick) where
-    -- The step with an outcome, if it leads to wait, registers.
-    abbrev Joins : Limit → ZeroOutcome → Type 0
-    Joins l x =
-        placeOf (stepTo M t (First o l) x .now) (t .0) ≡ Zero (Wait (sideOf o) d) →
-        Registered M (stepTo M t (First o l) x) t (sideOf o) d
+  module _ (t : Thread) (o : Offer) (σ : Side) (d : Tick) where
+    -- From M to N the step, if it leads to wait, registers.
+    abbrev pub Joins : Moment Past → Type 0
+    Joins N = placeOf (N .now) (t .0) ≡ Zero (Wait σ d) → (σ ≡ sideOf o) × Registered M N t (sideOf o) d
 
-    partner-waits : (o : Offer) (v : Thread) (σ : Side) → Zero (partnerFor o v) ≡ Zero (Wait σ d) → ⊥
-    partner-waits (Send m) v σ e = let z : _≡_ {A = ℕ} 0 1 = cc in omega arith
-    partner-waits Receive v σ e = let z : _≡_ {A = ℕ} 0 1 = cc in omega arith
+    partner-waits : (o : Offer) (v : Thread) → Zero (partnerFor o v) ≡ Zero (Wait σ d) → ⊥
+    partner-waits (Send m) v e = let z : _≡_ {A = ℕ} 0 1 = cc in omega arith
+    partner-waits Receive v e = let z : _≡_ {A = ℕ} 0 1 = cc in omega arith
 
-    done-waits : (a : Answer) (σ : Side) → Done a ≡ Zero (Wait σ d) → ⊥
-    done-waits a σ e = let z : _≡_ {A = ℕ} 0 1 = cc in omega arith
+    done-waits : (a : Answer) → Done a ≡ Zero (Wait σ d) → ⊥
+    done-waits a e = let z : _≡_ {A = ℕ} 0 1 = cc in omega arith
 
     module _ (there : t .0 < M .now .count) where
-      ended : (l : Limit) (x : ZeroOutcome) → (placeAfterZero (x .next) ≡ Zero (Wait (sideOf o) d) → ⊥) → Joins l x
+      ended : (l : Limit) (x : ZeroOutcome) → (placeAfterZero (x .next) ≡ Zero (Wait σ d) → ⊥) → Joins (stepTo M t (First o l) x)
       ended l x n e = absurd (n (sym (stands-at M K t there (First o l) x) ∙ e))
 
-      alone : (l : Limit) → Joins l (aloneStep o l)
-      alone Try = ended Try (aloneStep o Try) (done-waits _ (sideOf o))
-      alone (Until c) = registered M I t there o c d
+      alone : (l : Limit) → Joins (stepTo M t (First o l) (aloneStep o l))
+      alone Try e = ended Try (aloneStep o Try) (done-waits _) e
+      alone (Until c) e =
+          let f : Zero (Wait (sideOf o) c) ≡ Zero (Wait σ d) = sym (at-wait M I t there o c) ∙ e in
+          let g : c ≡ d = cc in (
+            let h : sideOf o ≡ σ = cc in sym h,
+            subst (λ (x : Tick). Registered M (joined M I t there o c) t (sideOf o) x) g (registered M I t there o c),
+          )
 
-      first : (l : Limit) (f : Found) (b : Bool) → Joins l (firstStep o l f b)
-      first l (At v) b = ended l (firstStep o l (At v) b) (partner-waits o v (sideOf o))
+      first : (l : Limit) (f : Found) (b : Bool) → Joins (stepTo M t (First o l) (firstStep o l f b))
+      first l (At v) b = ended l (firstStep o l (At v) b) (partner-waits o v)
       first l Nobody b =
-          either (Joins l) b (λ g. ended l (ends (Disconnected (messageOf o))) (done-waits _ (sideOf o))) (λ g. alone l)
+          either (λ x. Joins (stepTo M t (First o l) x)) b (λ g. ended l (ends (Disconnected (messageOf o))) (done-waits _))
+          (λ g. alone l)
 
-    pub registers : (l : Limit) → placeOf (M .now) (t .0) ≡ Zero (First o l) →
-        placeOf (next rule M (steps t) .now) (t .0) ≡ Zero (Wait (sideOf o) d) →
-        Registered M (next rule M (steps t)) t (sideOf o) d
+    pub registers : (l : Limit) → placeOf (M .now) (t .0) ≡ Zero (First o l) → Joins (next rule M (steps t))
     registers l at =
-        step-is M t (First o l) at
-        (λ N y. placeOf (N .now) (t .0) ≡ Zero (Wait (sideOf o) d) → Registered M N t (sideOf o) d)
+        step-is M t (First o l) at (λ N y. Joins N)
         (λ n e.
-        let f : Zero (First o l) ≡ Zero (Wait (sideOf o) d) = sym at ∙ e in
+        let f : Zero (First o l) ≡ Zero (Wait σ d) = sym at ∙ e in
         absurd (let z : _≡_ {A = ℕ} 0 1 = cc in omega arith))
         (λ there. first there l (foundBy z t (First o l)) (z .disconnected))
 
@@ -113,7 +114,7 @@ module _ (M : Moment Past) (I : Inv M) where
           whom = v;
           entry = let (c, U) = was M I u there o l v at f in queued M I (v .0) ρ c U;
           near = go (ℕ-discrete (v .0) t) (ℕ-discrete (aheadOf (v .0) q) (aheadOf t q));
-          goes = stands-at M K u there (First o l) (writes (effect.Pick ρ v) (Goes (partnerFor o v)));
+          goes = goes M I u there o l v at f;
           word = becomes M I u there o l v at f;
           gone = gone M I u there o l v at f;
           due = λ e. same (omega (arith, least, waiter M I t ρ d W .bound));

@@ -37,16 +37,16 @@ use Rattle.grown.proofs.Departures.{unlike}
 use Rattle.grown.proofs.Scene.{Scene, Good}
 use Rattle.grown.proofs.Meetings.{pick-good}
 use Rattle.handover.specs.Meetings.{Past, Pair, pairOf, senderOf, wordAt}
-use Rattle.handover.specs.Statement.{queueAt, aheadOf, Waits, Unpaired}
-use Rattle.handover.proofs.Inv.{Holding, Limited, Joint, Chosen, Waiter, AtPlace, Inv}
+use Rattle.handover.specs.Statement.{queueAt, aheadOf, Waits}
+use Rattle.handover.proofs.Inv.{Holding, Joint, Chosen, Waiter, AtCall, AtPlace, Inv}
 use Rattle.handover.proofs.Updates.{updated-here, updated-else}
 use Rattle.handover.proofs.Queues.{ahead-less, oldest-least}
-use Rattle.handover.proofs.Sides.{own-side, one-side}
+use Rattle.handover.proofs.Sides.{twice, own-side, one-side}
 use Rattle.handover.proofs.Moments.{stepTo, stage, stands-at}
 use Rattle.handover.proofs.Touch.{picks}
 use Rattle.handover.proofs.Steady.{Load}
 use Rattle.handover.proofs.Bystanders.{same, opposed-now}
-use Rattle.handover.proofs.Waiters.{named, waiter, queued, waits-there}
+use Rattle.handover.proofs.Waiters.{named, waiter, queued, waits-there, on-side}
 use Rattle.handover.proofs.Keeping.{After, unnamed, partnered}
 
 -- What the picking call then has at its place.
@@ -86,7 +86,7 @@ module _ (M : Moment Past) (I : Inv M) (t : Thread) (there : t .0 < M .now .coun
   H : Scene (M .now .zero) (M .now .threads) t
   H = stage M (I .kept) t there
 
-  mine : Unpaired M (t .0) × (messageOf o ≡ M .past .carried (t .0)) × Limited M (t .0) l
+  mine : AtCall M (t .0) (First o l)
   mine = rw at at (I .self (t .0))
 
   -- The picked one was a waiter, which has left its queue, and now is picked.
@@ -99,8 +99,11 @@ module _ (M : Moment Past) (I : Inv M) (t : Thread) (there : t .0 < M .now .coun
   G : Good (M .now .zero) (M .now .threads) t H choosing
   G = pick-good (M .now .zero) (M .now .threads) t H o l v at f
 
+  pub goes : placeOf (N .now) (t .0) ≡ Zero (partnerFor o v)
+  goes = stands-at M (I .kept) t there (First o l) choosing
+
   P : Picks (viewOn (N .now .zero) (N .now .threads)) (t .0) ρ v
-  P = G .orderly .picks (t .0) ρ v (ap partnerOf (stands-at M (I .kept) t there (First o l) choosing) ∙ names o v)
+  P = G .orderly .picks (t .0) ρ v (ap partnerOf goes ∙ names o v)
 
   pub becomes : wordAt (N .now) (v .0) ≡ word.Picked
   becomes = P .word
@@ -116,6 +119,7 @@ module _ (M : Moment Past) (I : Inv M) (t : Thread) (there : t .0 < M .now .coun
   joint : Joint N (t .0) ρ v x 0
   joint =
       record {
+        code = rw (twice (sideOf o)) (on-side M (t .0) (sideOf o) l (mine .2));
         mine =
             updated-here (updated (M .past .pairs) (v .0) (pairOf (t .0) x ∷ M .past .pairs (v .0))) (t .0) _
             ∙ ap (λ (l : List Pair). pairOf (v .0) x ∷ l) (mine .0);
@@ -169,5 +173,5 @@ module _ (M : Moment Past) (I : Inv M) (t : Thread) (there : t .0 < M .now .coun
   pub pick-step : After M I t there (First o l) at choosing
   pick-step =
       partnered M I t there (First o l) at choosing ρ v x (λ u k. k) ours load
-      (picks t o l refl at (F .there) (F .waiting) (P .word)) (unnamed M I t there (First o l) at choosing (λ τ. refl))
-      (rw (was .1 .place) (own-side ρ)) (P .word) refl chosen (met-at N (t .0) v o joint (mine .1) (W .holding))
+      (picks t o l refl at (F .there) (F .waiting) goes (P .word)) (unnamed M I t there (First o l) at choosing (λ τ. refl))
+      (rw (was .1 .place) (own-side ρ)) (P .word) (refl, refl) chosen (met-at N (t .0) v o joint (mine .1) (W .holding))

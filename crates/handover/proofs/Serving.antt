@@ -34,7 +34,7 @@ use Rattle.handover.proofs.Updates.{updated-here}
 use Rattle.handover.proofs.Bystanders.{Spares}
 use Rattle.handover.proofs.Moments.{stepTo}
 use Rattle.handover.proofs.Touch.{serves}
-use Rattle.handover.proofs.Waiters.{named, given}
+use Rattle.handover.proofs.Waiters.{named, given, SameCall}
 use Rattle.handover.proofs.Keeping.{After, Flat, unopposed, unnamed, partnered}
 
 module _ (M : Moment Past) (I : Inv M) (t : Thread) (there : t .0 < M .now .count) (k : ZeroCall)
@@ -50,14 +50,14 @@ module _ (M : Moment Past) (I : Inv M) (t : Thread) (there : t .0 < M .now .coun
   -- Nothing but v is touched, whom only t names, and v goes on as a picked one.
   serve : (o : ZeroOutcome) → ((u : ℕ) → u ≢ v .0 → Spares k (o .effect) u) →
       wordAt (stepTo M t k o .now) (v .0) ≡ wordAt (M .now) (v .0) →
-      stepTo M t k o .past .deadline (v .0) ≡ M .past .deadline (v .0) → Chosen (stepTo M t k o) (v .0) ρ (t .0) m 0 →
+      SameCall M (stepTo M t k o) (v .0) → Chosen (stepTo M t k o) (v .0) ρ (t .0) m 0 →
       AtPlace (stepTo M t k o) (t .0) (placeAfterZero (o .next)) → After M I t there k at o
-  serve o spared word deadline C own =
+  serve o spared word alike C own =
       partnered M I t there k at o ρ v m spared
       (λ u σ x apart e s. apart (I .kept .orderly .sole u (t .0) σ ρ x v e (rw at names) s))
       (λ u apart f. unopposed M I t there k at o u apart (spared u f) flat)
       (serves t ρ refl (rw at names)) (unnamed M I t there k at o (naming (Zero k) ρ v names .awaited)) (P .waits)
-      (word ∙ P .word) deadline C own
+      (word ∙ P .word) alike C own
 
   -- Its message, where it is the one that sends.
   theirs : ρ ≡ Sender → m ≡ M .past .carried (v .0)
@@ -80,6 +80,7 @@ module _ (M : Moment Past) (I : Inv M) (t : Thread) (there : t .0 < M .now .coun
   joint : (N : Record) → Joint (record { now = N; past = plain (M .now) (M .past) (t .0) k }) (t .0) ρ v m (suc n)
   joint N =
       record {
+        code = J .code;
         mine = J .mine;
         theirs = J .theirs;
         sent = J .sent;
@@ -92,7 +93,7 @@ module _ (M : Moment Past) (I : Inv M) (t : Thread) (there : t .0 < M .now .coun
   puts : (Joint (stepTo M t k putting) (t .0) ρ v (packetOf (stepTo M t k putting .now) (v .0) .message) (suc n) →
       AtPlace (stepTo M t k putting) (t .0) (Zero (PutReady v))) → After M I t there k at putting
   puts own =
-      serve putting (λ u f. f) refl refl (still (stepTo M t k putting .now) (unmarked m))
+      serve putting (λ u f. f) refl (refl, refl) (still (stepTo M t k putting .now) (unmarked m))
       (own (rw (new (packet m (packetOf (M .now) (v .0) .ready))) (joint (stepTo M t k putting .now))))
 
   abbrev taking : ZeroOutcome
@@ -101,14 +102,15 @@ module _ (M : Moment Past) (I : Inv M) (t : Thread) (there : t .0 < M .now .coun
   takes : (Joint (stepTo M t k taking) (t .0) ρ v m (suc n) → AtPlace (stepTo M t k taking) (t .0) (Zero (TakeReady v m))) →
       After M I t there k at taking
   takes own =
-      serve taking (λ u f. f) refl refl (still (stepTo M t k taking .now) (unmarked 0)) (own (joint (stepTo M t k taking .now)))
+      serve taking (λ u f. f) refl (refl, refl) (still (stepTo M t k taking .now) (unmarked 0))
+      (own (joint (stepTo M t k taking .now)))
 
   -- The second: its mark is set.
   readies : (a : Answer) → (ρ ≡ Receiver → packetOf (M .now) (v .0) .message ≡ m) →
       AtPlace (stepTo M t k (writes (effect.SetReady v) (Ends a))) (t .0) (Done a) →
       After M I t there k at (writes (effect.SetReady v) (Ends a))
   readies a passed own =
-      serve (writes (effect.SetReady v) (Ends a)) (λ u f. f) refl refl
+      serve (writes (effect.SetReady v) (Ends a)) (λ u f. f) refl (refl, refl)
       (record {
         pair = J .theirs;
         own = theirs;
@@ -128,7 +130,7 @@ module _ (M : Moment Past) (I : Inv M) (t : Thread) (there : t .0 < M .now .coun
   pub put-ready-step : (at : placeOf (M .now) (t .0) ≡ Zero (PutReady v)) → After M I t there (PutReady v) at (putReadyStep v)
   put-ready-step at =
       readies M I t there (PutReady v) at Receiver v refl (λ u σ d n W. refl) message 1 J Sent (λ s. refl)
-      (v .0, J .mine ∙ ap (λ (x : ℕ). pairOf (v .0) x ∷ []) (J .sent))
+      (J .code, (v .0, J .mine ∙ ap (λ (x : ℕ). pairOf (v .0) x ∷ []) (J .sent)))
     where
       J : Joint M (t .0) Receiver v message 1
       J = rw at at (I .self (t .0))
@@ -141,7 +143,7 @@ module _ (M : Moment Past) (I : Inv M) (t : Thread) (there : t .0 < M .now .coun
       After M I t there (TakeReady v m) at (takeReadyStep v m)
   take-ready-step m at =
       readies M I t there (TakeReady v m) at Sender v refl (λ u σ d n W. refl) m 1 J (Received m)
-      (λ s. let z : _≡_ {A = ℕ} 0 1 = cc in absurd (omega arith)) (v .0, J .mine)
+      (λ s. let z : _≡_ {A = ℕ} 0 1 = cc in absurd (omega arith)) (J .code, (v .0, J .mine))
     where
       J : Joint M (t .0) Sender v m 1
       J = rw at at (I .self (t .0))

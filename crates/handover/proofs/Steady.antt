@@ -7,6 +7,7 @@ use Rattle.waker.specs.declared.context.Selected.{Selected}
 use Rattle.waker.specs.declared.context.Selected.the-variants as word
 use Rattle.waker.specs.declared.wakers.Side.{Side}
 use Rattle.waker.specs.declared.wakers.Side.the-variants.{Sender, Receiver}
+use Rattle.channel.specs.ZeroSteps.{sideOf}
 use Rattle.channel.specs.declared.answer.Tick.{Tick}
 use Rattle.channel.specs.declared.answer.Answer.{Answer}
 use Rattle.channel.specs.declared.answer.Answer.the-variants as answer
@@ -63,9 +64,9 @@ module _ (M N : Moment Past) (a : Act) where
     timed : (σ : Side) → TimedOut M u σ → TimedOut N u σ
     timed σ C = record { unpaired = K .pairs ∙ C .unpaired; holding = holding σ (C .holding); late = later (C .late) }
 
-    limited : (l : Limit) → Limited M u l → Limited N u l
-    limited Try h = tt
-    limited (Until d) h = h ∙ sym (K .deadline)
+    limited : (σ : Side) (l : Limit) → Limited M u σ l → Limited N u σ l
+    limited σ Try h = K .code ∙ h
+    limited σ (Until d) h = (K .code ∙ h .0, h .1 ∙ sym (K .deadline))
 
     -- At wait.
     module _ (σ : Side) (less : wordAt (M .now) u ≡ word.Waiting →
@@ -105,15 +106,15 @@ module _ (M N : Moment Past) (a : Act) where
         go (cuts e f g) = absurd (rw e at L)
 
     tells : (a : Answer) → Tells M u a → Tells N u a
-    tells answer.Sent (x, h) = (x, rw (K .carried) (K .pairs ∙ h))
-    tells (answer.Received m) (x, h) = (x, K .pairs ∙ h)
-    tells (answer.Full m) h = (K .pairs ∙ h .0, h .1 ∙ sym (K .carried))
-    tells answer.Empty h = K .pairs ∙ h
-    tells (answer.Disconnected m) h = (K .pairs ∙ h .0, h .1 ∙ sym (K .carried), K .flag (h .2))
-    tells (answer.Timeout m) h = (K .pairs ∙ h .0, h .1 ∙ sym (K .carried), later (h .2))
-    tells (answer.Number n) h = tt
-    tells answer.Yes h = tt
-    tells answer.No h = tt
+    tells answer.Sent h = rw (K .code, K .pairs, K .carried) h
+    tells (answer.Received m) h = rw (K .code, K .pairs) h
+    tells (answer.Full m) h = rw (K .code, K .pairs, K .carried) h
+    tells answer.Empty h = rw (K .code, K .pairs) h
+    tells (answer.Disconnected m) h = rw (K .code, K .pairs, K .carried) (h .0, h .1, h .2, K .flag (h .3))
+    tells (answer.Timeout m) h = (rw (K .code) (h .0), K .pairs ∙ h .1, h .2 ∙ sym (K .carried), later (h .3))
+    tells (answer.Number n) h = rw (K .code, K .pairs) h
+    tells answer.Yes h = rw (K .code, K .pairs) h
+    tells answer.No h = rw (K .code, K .pairs) h
 
     sender-same : (σ : Side) (v : ℕ) → Mate v → N .past .carried (senderOf σ u v) ≡ M .past .carried (senderOf σ u v)
     sender-same Sender v Q = Q .carried
@@ -122,6 +123,7 @@ module _ (M N : Moment Past) (a : Act) where
     joint : (σ : Side) (v : Thread) (m n : ℕ) → Mate (v .0) → Joint M u σ v m n → Joint N u σ v m n
     joint σ v m n Q J =
         record {
+          code = rw (K .code) (J .code);
           mine = K .pairs ∙ J .mine;
           theirs = Q .pairs ∙ J .theirs;
           sent = J .sent ∙ sym (sender-same σ (v .0) Q);
@@ -136,15 +138,15 @@ module _ (M N : Moment Past) (a : Act) where
         AtPlace M u p → AtPlace N u p
     on L Idle e mate h = tt
     on L (Array k) e mate h = h
-    on L (Zero (First o l)) e mate h = (K .pairs ∙ h .0, h .1 ∙ sym (K .carried), limited l (h .2))
+    on L (Zero (First o l)) e mate h = (K .pairs ∙ h .0, h .1 ∙ sym (K .carried), limited (sideOf o) l (h .2))
     on L (Zero (Put v m)) e mate h = joint Receiver v m 0 (mate Receiver v refl) h
     on L (Zero (PutReady v)) e mate h = joint-message Receiver v 1 (mate Receiver v refl) h
     on L (Zero (Take v)) e mate h = joint-message Sender v 0 (mate Sender v refl) h
     on L (Zero (TakeReady v m)) e mate h = joint Sender v m 1 (mate Sender v refl) h
-    on L (Zero (Wait σ d)) e mate h = (h .0 ∙ sym (K .deadline), waits σ (λ w. L σ d (record { place = e; word = w })) (h .1))
-    on L (Zero (ReadyWait σ)) e mate (x, m, C) = (x, m, chosen σ x m 1 C)
-    on L (Zero (Leave σ)) e mate h = leaves σ h
-    on L (Zero (Ask q)) e mate h = tt
+    on L (Zero (Wait σ d)) e mate h = (limited σ (Until d) (h .0), waits σ (λ w. L σ d (record { place = e; word = w })) (h .1))
+    on L (Zero (ReadyWait σ)) e mate (x, m, c, C) = (x, m, K .code ∙ c, chosen σ x m 1 C)
+    on L (Zero (Leave σ)) e mate h = (K .code ∙ h .0, leaves σ (h .1))
+    on L (Zero (Ask q)) e mate h = (K .code ∙ h .0, K .pairs ∙ h .1)
     on L (Done a) e mate h = tells a h
 
     pub steady : Load u → ((σ : Side) (v : Thread) → partnerOf (placeOf (M .now) u) ≡ Of σ v → Mate (v .0)) →

@@ -9,7 +9,7 @@ use Rattle.waker.specs.declared.context.Thread.{Thread}
 use Rattle.waker.specs.declared.context.Selected.{Selected}
 use Rattle.waker.specs.declared.context.Selected.the-variants as word
 use Rattle.waker.specs.declared.wakers.Side.{Side}
-use Rattle.channel.specs.ZeroSteps.{sideOf}
+use Rattle.channel.specs.ZeroSteps.{sideOf, partnerFor}
 use Rattle.channel.specs.declared.zero.call.Offer.{Offer}
 use Rattle.channel.specs.declared.zero.call.Limit.{Limit}
 use Rattle.channel.specs.declared.zero.call.Question.the-variants.{Disconnect}
@@ -41,6 +41,7 @@ pub record Same (M N : Moment Past) (a : Act) (u : ℕ) : Type 0 where
   pub word : Word (Cut M a (N .now .zero .disconnected)) (wordAt (M .now) u) (wordAt (N .now) u)
   pub packet : packetOf (N .now) u ≡ packetOf (M .now) u
   pub ahead : (σ : Side) → 0 < timesIn u (queueAt (M .now) σ) → aheadOf u (queueAt (N .now) σ) ≤ aheadOf u (queueAt (M .now) σ)
+  pub code : N .past .code u ≡ M .past .code u
   pub carried : N .past .carried u ≡ M .past .carried u
   pub deadline : N .past .deadline u ≡ M .past .deadline u
   pub entries : N .past .entries u ≡ M .past .entries u
@@ -54,7 +55,7 @@ pub data Touch (M N : Moment Past) (a : Act) (v : ℕ) : Type 0 where
   spares : Same M N a v → Touch M N a v
   picks : (u : Thread) (o : Offer) (l : Limit) → a ≡ steps u → placeOf (M .now) (u .0) ≡ Zero (First o l) →
       0 < timesIn v (queueAt (M .now) (otherSide (sideOf o))) → wordAt (M .now) v ≡ word.Waiting →
-      wordAt (N .now) v ≡ word.Picked → Touch M N a v
+      placeOf (N .now) (u .0) ≡ Zero (partnerFor o (thread v)) → wordAt (N .now) v ≡ word.Picked → Touch M N a v
   serves : (u : Thread) (σ : Side) → a ≡ steps u → partnerOf (placeOf (M .now) (u .0)) ≡ Of σ (thread v) → Touch M N a v
 
 -- What is shown of every call: what holds at all places holds on, and what is left of those that await.

@@ -2,6 +2,7 @@
 use Prim.Native.Nat.{ℕ, _<_}
 use mathlib.Core.Path.{_≡_, sym, _∙_}
 use mathlib.Core.Bool.{true}
+use mathlib.Core.Logic.{inl, inr}
 use native.Mathlib.Omega.{arith}
 use Rattle.waker.specs.declared.context.Thread.{Thread}
 use Rattle.waker.specs.declared.context.Selected.the-variants as word
@@ -9,6 +10,8 @@ use Rattle.waker.specs.declared.wakers.Side.{Side}
 use Rattle.channel.specs.Zero.{packetAt, withPacket}
 use Rattle.channel.specs.declared.answer.Tick.{Tick}
 use Rattle.channel.specs.declared.zero.Packet.{Packet}
+use Rattle.channel.specs.declared.zero.call.Limit.{Limit}
+use Rattle.channel.specs.declared.zero.call.Limit.the-variants.{Try, Until}
 use Rattle.schedule.specs.Record.{placeOf}
 use Rattle.schedule.specs.History.{Moment}
 use Rattle.places.specs.FormWaits.{queuedAt, awaits, partnerOf, timesIn}
@@ -20,8 +23,8 @@ use Rattle.grown.proofs.Places.{waiting-there, stands-queued, stands-waiting}
 use Rattle.grown.proofs.ZeroKept.{inside}
 use Rattle.grown.proofs.ZeroMemory.{packet-here}
 use Rattle.handover.specs.Meetings.{Past, wordAt, packetOf}
-use Rattle.handover.specs.Statement.{queueAt, Waits}
-use Rattle.handover.proofs.Inv.{Chosen, Waiter, AtPlace, Inv}
+use Rattle.handover.specs.Statement.{queueAt, Waits, OnSide}
+use Rattle.handover.proofs.Inv.{Limited, Chosen, Waiter, AtPlace, Inv}
 use Rattle.handover.proofs.Sides.{Awaits, at-wait, at-ready, awaiting}
 
 module _ (M : Moment Past) (I : Inv M) where
@@ -60,13 +63,29 @@ module _ (M : Moment Past) (I : Inv M) where
         go (at-wait d e) = (d, record { place = e; word = w })
         go (at-ready e) = absurd (clash (sym (rw e at stands)))
 
+-- A call knows its side by its code.
+pub on-side : (M : Moment Past) (t : ℕ) (σ : Side) (l : Limit) → Limited M t σ l → OnSide M t σ
+on-side M t σ Try h = inl h
+on-side M t σ (Until d) h = inr (h .0)
+
+-- From M to N, v's call has the code and the deadline that it had.
+abbrev pub SameCall : Moment Past → Moment Past → ℕ → Type 0
+SameCall M N v = (N .past .code v ≡ M .past .code v) × (N .past .deadline v ≡ M .past .deadline v)
+
 -- From M to N, v is picked and at wait or ready-wait, whatever has become of its packet.
 module _ (M N : Moment Past) (v : ℕ) (σ : Side) (u m : ℕ) (C : Chosen N v σ u m 0) (picked : wordAt (N .now) v ≡ word.Picked)
-    (same : N .past .deadline v ≡ M .past .deadline v) where
+    (same : SameCall M N v) where
   pub picked-at : (p : Place) → awaits σ p ≡ true → AtPlace M v p → AtPlace N v p
   picked-at p a h = go (awaiting σ p a)
     where
       go : Awaits σ p → AtPlace N v p
-      go (at-wait d e) = rw e ((rw e at h) .0 ∙ sym same, rw picked (u, m, C))
+      go (at-wait d e) =
+          let (c, b) : Limited M v σ (Until d) = (rw e at h) .0 in
+          rw e ((same .0 ∙ c, b ∙ sym (same .1)), rw picked (u, m, C))
       go (at-ready e) =
-          rw e (u, m, record { pair = C .pair; own = C .own; since = λ r. omega (arith, C .since r); message = C .message })
+          rw e (
+            u,
+            m,
+            same .0 ∙ (rw e at h) .2,
+            record { pair = C .pair; own = C .own; since = λ r. omega (arith, C .since r); message = C .message },
+          )

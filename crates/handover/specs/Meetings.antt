@@ -1,6 +1,6 @@
 -- What a history has brought about on a rendezvous, read off its accepted calls.
-use Prim.Native.Nat.{ℕ, suc, _+_}
-use mathlib.Core.Bool.{Bool, true, false}
+use Prim.Native.Nat.{ℕ, suc}
+use mathlib.Core.Bool.{Bool, false}
 use mathlib.Core.List.{List, [], _∷_}
 use lib.ListN.{length}
 use Rattle.waker.specs.Choice.{if_then_else_}
@@ -11,8 +11,9 @@ use Rattle.waker.specs.declared.wakers.Side.{Side}
 use Rattle.waker.specs.declared.wakers.Side.the-variants.{Sender, Receiver}
 use Rattle.channel.specs.Zero.{outcomeOf, packetAt}
 use Rattle.channel.specs.ZeroSteps.{sideOf}
-use Rattle.channel.specs.declared.answer.Tick.{Tick}
 use Rattle.channel.specs.declared.zero.Packet.{Packet}
+use Rattle.channel.specs.declared.zero.call.Question.{Question}
+use Rattle.channel.specs.declared.zero.call.Question.the-variants as ask
 use Rattle.channel.specs.declared.zero.call.ZeroCall.{ZeroCall}
 use Rattle.channel.specs.declared.zero.call.ZeroCall.the-variants.{First, Put, PutReady, Take, TakeReady, Wait, ReadyWait, Leave, Ask}
 use Rattle.channel.specs.declared.zero.outcome.ZeroEffect.{ZeroEffect}
@@ -22,6 +23,7 @@ use Rattle.places.specs.Begin.{codeOf, carriedBy}
 use Rattle.places.specs.FormWaits.{sameSide}
 use Rattle.schedule.specs.History.{Act, begins, steps, advances, takes, Moment, reached, updated}
 use Rattle.places.specs.declared.begin.Code.{Code}
+use Rattle.places.specs.declared.begin.Code.the-variants as code
 use Rattle.places.specs.declared.place.Place.{Place}
 use Rattle.places.specs.declared.place.Place.the-variants.{Idle, Array, Zero, Done}
 use Rattle.schedule.specs.declared.record.Record.{Record}
@@ -40,7 +42,8 @@ pub record Pair : Type 0 where
 
 -- What is remembered of each thread's call.
 pub record Past : Type 0 where
-  -- The message that it carries, and its deadline, as begun.
+  -- Its code, the message that it carries, and its deadline, as begun.
+  pub code : ℕ → Code
   pub carried : ℕ → ℕ
   pub deadline : ℕ → ℕ
   -- The entries ahead of it when it registered.
@@ -55,6 +58,7 @@ pub record Past : Type 0 where
 abbrev pub begunCall : Past → ℕ → Code → ℕ → ℕ → Past
 begunCall h t c m d =
     record {
+      code = updated (h .code) t c;
       carried = updated (h .carried) t (carriedBy c m);
       deadline = updated (h .deadline) t d;
       entries = h .entries;
@@ -62,6 +66,22 @@ begunCall h t c m d =
       pairs = updated (h .pairs) t [];
       since = h .since;
     }
+
+-- The code of a side's call that may not wait, and of one that may; and of a question.
+abbrev pub tryCode : Side → Code
+tryCode Sender = code.TrySend
+tryCode Receiver = code.TryReceive
+
+abbrev pub waitCode : Side → Code
+waitCode Sender = code.Send
+waitCode Receiver = code.Receive
+
+abbrev pub askCode : Question → Code
+askCode ask.Len = code.Len
+askCode ask.IsEmpty = code.IsEmpty
+askCode ask.IsFull = code.IsFull
+askCode ask.IsDisconnected = code.IsDisconnected
+askCode ask.Disconnect = code.Disconnect
 
 -- A call waits on a side with its word Waiting.
 abbrev pub waitsOn : Side → Place → Selected → Bool
@@ -106,6 +126,7 @@ module _ (r : Record) (h : Past) (t : ℕ) (k : ZeroCall) where
   abbrev pub plain : Past
   plain =
       record {
+        code = h .code;
         carried = h .carried;
         deadline = h .deadline;
         entries = h .entries;
@@ -118,6 +139,7 @@ module _ (r : Record) (h : Past) (t : ℕ) (k : ZeroCall) where
   abbrev pub paired : ℕ → ℕ → Past
   paired v m =
       record {
+        code = h .code;
         carried = h .carried;
         deadline = h .deadline;
         entries = h .entries;
@@ -130,6 +152,7 @@ module _ (r : Record) (h : Past) (t : ℕ) (k : ZeroCall) where
   abbrev pub registeredOn : Side → Past
   registeredOn σ =
       record {
+        code = h .code;
         carried = h .carried;
         deadline = h .deadline;
         entries = updated (h .entries) t (length (listed (r .zero .wakers) σ));
@@ -142,6 +165,7 @@ module _ (r : Record) (h : Past) (t : ℕ) (k : ZeroCall) where
   abbrev pub marked : ℕ → Past
   marked v =
       record {
+        code = h .code;
         carried = h .carried;
         deadline = h .deadline;
         entries = h .entries;
@@ -180,6 +204,7 @@ rule r h (takes t) = h
 abbrev pub nothing : Past
 nothing =
     record {
+      code = λ t. code.Unknown;
       carried = λ t. 0;
       deadline = λ t. 0;
       entries = λ t. 0;

@@ -1,7 +1,7 @@
 -- Demand 3, sentence by sentence: for every number of threads and history from a fresh rendezvous.
 use Prim.Native.Nat.{ℕ, suc, _+_, _<_, _≤_}
 use mathlib.Core.Path.{_≡_}
-use mathlib.Core.Bool.{Bool, true, false}
+use mathlib.Core.Bool.{true, false}
 use mathlib.Core.Logic.{_⊎_, _≢_}
 use mathlib.Core.List.{List, [], _∷_, _++_}
 use lib.ListN.{length}
@@ -12,6 +12,7 @@ use Rattle.waker.specs.Wakers.{otherSide, listed}
 use Rattle.waker.specs.declared.context.Thread.{Thread}
 use Rattle.waker.specs.declared.context.Selected.the-variants as word
 use Rattle.waker.specs.declared.wakers.Side.{Side}
+use Rattle.waker.specs.declared.wakers.Side.the-variants.{Sender, Receiver}
 use Rattle.channel.specs.Zero.{packetFor}
 use Rattle.channel.specs.ZeroSteps.{sideOf, partnerFor, metBy}
 use Rattle.channel.specs.declared.answer.Tick.{Tick}
@@ -19,7 +20,8 @@ use Rattle.channel.specs.declared.answer.Answer.{Answer}
 use Rattle.channel.specs.declared.answer.Answer.the-variants as answer
 use Rattle.channel.specs.declared.zero.call.Offer.{Offer}
 use Rattle.channel.specs.declared.zero.call.Limit.{Limit}
-use Rattle.channel.specs.declared.zero.call.Question.the-variants.{Disconnect}
+use Rattle.channel.specs.declared.zero.call.Question.{Question}
+use Rattle.channel.specs.declared.zero.call.Question.the-variants.{Len, Disconnect}
 use Rattle.channel.specs.declared.zero.call.ZeroCall.{ZeroCall}
 use Rattle.channel.specs.declared.zero.call.ZeroCall.the-variants.{First, Wait, ReadyWait, Leave, Ask}
 use Rattle.schedule.specs.Record.{placeOf, acceptedAs}
@@ -30,7 +32,7 @@ use Rattle.places.specs.declared.waits.Partner.the-variants.{Of}
 use Rattle.places.specs.declared.place.Place.the-variants.{Zero, Done}
 use Rattle.schedule.specs.declared.record.Record.{Record}
 use Rattle.places.specs.declared.refusal.Reply.the-variants as reply
-use Rattle.handover.specs.Meetings.{Past, Pair, pairOf, senderOf, wordAt, packetOf, rule, momentAfter}
+use Rattle.handover.specs.Meetings.{Past, tryCode, waitCode, askCode, pairOf, senderOf, wordAt, packetOf, rule, momentAfter}
 
 -- A side's queue, oldest entry first, and how many entries stand before t in it.
 abbrev pub queueAt : Record → Side → List Thread
@@ -71,7 +73,8 @@ pub record Picks (M N : Moment Past) (t : ℕ) (u : Thread) (σ : Side) (o : Off
 pub data Fate (M N : Moment Past) (a : Act) (t : ℕ) (σ : Side) (d : Tick) : Type 0 where
   waits-on : Waits (N .now) t σ d → Fate M N a t σ d
   is-picked : (u : Thread) (o : Offer) (l : Limit) → a ≡ steps u → placeOf (M .now) (u .0) ≡ Zero (First o l) →
-      sideOf o ≡ otherSide σ → wordAt (N .now) t ≡ word.Picked → Fate M N a t σ d
+      sideOf o ≡ otherSide σ → placeOf (N .now) (u .0) ≡ Zero (partnerFor o (thread t)) → wordAt (N .now) t ≡ word.Picked →
+      Fate M N a t σ d
   times-out : a ≡ steps (thread t) → d .0 ≤ M .now .clock .0 → placeOf (N .now) t ≡ Zero (Leave σ) →
       wordAt (N .now) t ≡ word.Aborted → Fate M N a t σ d
   cut-off : (u : Thread) → a ≡ steps u → placeOf (M .now) (u .0) ≡ Zero (Ask Disconnect) →
@@ -111,6 +114,13 @@ module _ (M : Moment Past) (t : ℕ) where
   abbrev pub Unpaired : Type 0
   Unpaired = M .past .pairs t ≡ []
 
+  -- Its code is a send's or a receive's, or a question's.
+  abbrev pub OnSide : Side → Type 0
+  OnSide σ = (M .past .code t ≡ tryCode σ) ⊎ (M .past .code t ≡ waitCode σ)
+
+  abbrev pub Asks : Type 0
+  Asks = (q : Question) × (M .past .code t ≡ askCode q)
+
   -- It has one partner, and the message that passed is m.
   abbrev pub Passed : ℕ → Type 0
   Passed m = (u : ℕ) × (M .past .pairs t ≡ pairOf u m ∷ [])
@@ -120,22 +130,23 @@ module _ (M : Moment Past) (t : ℕ) where
   Back m = m ≡ M .past .carried t
 
   abbrev pub Tells : Answer → Type 0
-  Tells answer.Sent = Passed (M .past .carried t)
-  Tells (answer.Received m) = Passed m
-  Tells (answer.Full m) = Unpaired × Back m
-  Tells answer.Empty = Unpaired
-  Tells (answer.Disconnected m) = Unpaired × Back m × (M .now .zero .disconnected ≡ true)
-  Tells (answer.Timeout m) = Unpaired × Back m × (M .past .deadline t ≤ M .now .clock .0)
-  Tells (answer.Number n) = Unit
-  Tells answer.Yes = Unit
-  Tells answer.No = Unit
+  Tells answer.Sent = OnSide Sender × Passed (M .past .carried t)
+  Tells (answer.Received m) = OnSide Receiver × Passed m
+  Tells (answer.Full m) = (M .past .code t ≡ tryCode Sender) × Unpaired × Back m
+  Tells answer.Empty = (M .past .code t ≡ tryCode Receiver) × Unpaired
+  Tells (answer.Disconnected m) = ((σ : Side) × OnSide σ) × Unpaired × Back m × (M .now .zero .disconnected ≡ true)
+  Tells (answer.Timeout m) =
+      ((σ : Side) × (M .past .code t ≡ waitCode σ)) × Unpaired × Back m × (M .past .deadline t ≤ M .now .clock .0)
+  Tells (answer.Number n) = (M .past .code t ≡ askCode Len) × Unpaired
+  Tells answer.Yes = Asks × Unpaired
+  Tells answer.No = Asks × Unpaired
 
 -- At every moment M, and N being the one after a further call.
 pub record Holds (M : Moment Past) : Type 0 where
-  -- Let a waiter register with k entries ahead of it.
-  pub registers : (t : Thread) (o : Offer) (l : Limit) (d : Tick) → placeOf (M .now) (t .0) ≡ Zero (First o l) →
-      placeOf (next rule M (steps t) .now) (t .0) ≡ Zero (Wait (sideOf o) d) →
-      Registered M (next rule M (steps t)) t (sideOf o) d
+  -- Let a waiter register, on its own side, with k entries ahead of it.
+  pub registers : (t : Thread) (o : Offer) (l : Limit) (σ : Side) (d : Tick) → placeOf (M .now) (t .0) ≡ Zero (First o l) →
+      placeOf (next rule M (steps t) .now) (t .0) ≡ Zero (Wait σ d) →
+      (σ ≡ sideOf o) × Registered M (next rule M (steps t)) t (sideOf o) d
   -- Each opposite call whose first step falls while its word is still Waiting picks it or an entry ahead,
   pub picks : (t : ℕ) (σ : Side) (d : Tick) → Waits (M .now) t σ d → (u : Thread) (o : Offer) (l : Limit) →
       placeOf (M .now) (u .0) ≡ Zero (First o l) → sideOf o ≡ otherSide σ → Accepted M (steps u) →
@@ -162,7 +173,7 @@ pub record Holds (M : Moment Past) : Type 0 where
   -- a step loads no packet but its own and its partner's,
   pub loads : (u : Thread) (k : ZeroCall) → placeOf (M .now) (u .0) ≡ Zero k →
       (packetFor u k ≡ u) ⊎ ((σ : Side) × (zeroPartner k ≡ Of σ (packetFor u k)))
-  -- and a call answers Sent or Received exactly when it was paired, once, with the message of the pair's send.
+  -- and a call answers as its code may: Sent or Received exactly when it was paired, once, with the message of the pair's send.
   pub answers : (t : ℕ) (a : Answer) → placeOf (M .now) t ≡ Done a → Tells M t a
 
 -- Whatever is called on a fresh rendezvous, refused calls among it.

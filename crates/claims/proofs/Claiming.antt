@@ -21,7 +21,7 @@ use Rattle.places.specs.declared.begin.Code.the-variants as code
 use Rattle.schedule.specs.declared.record.Record.{Record}
 use Rattle.claims.specs.Claims.{Claims, Call, Past, claimedSend, claimedReceive}
 use Rattle.claims.specs.Statement.{Unclaimed}
-use Rattle.claims.proofs.Updates.{updated-same, updated-other}
+use Rattle.grown.proofs.Updates.{updated-here, updated-else}
 use Rattle.claims.proofs.Words.{slotFor, word, word-inj, word-next, word-odd, slot-lap}
 use Rattle.claims.proofs.Tails.{plain, tail-one}
 use Rattle.claims.proofs.Sides.{stampIn, Side, sending, receiving, made, claimsOf, ReadyFor}
@@ -62,7 +62,7 @@ module _ (r : Record) (h : Past) (t : ℕ) (F : Fits (r .shape)) (C : CoreNow r 
     send-slot i (open-for k b g lo hi) = open-for k b g lo hi
     send-slot i (holds k b g lo hi f) =
         holds k b g (omega arith) (go (ℕ-discrete (c .sends) (k + S .capacity)))
-        (λ q. f q ∙ sym (updated-other (c .message) (c .sends) k _ (omega arith)))
+        (λ q. f q ∙ sym (updated-else (c .message) (c .sends) _ k (omega arith)))
       where
         go : Dec (c .sends ≡ k + S .capacity) → c .sends + 1 ≤ k + S .capacity
         go (no z) = omega arith
@@ -74,7 +74,7 @@ module _ (r : Record) (h : Past) (t : ℕ) (F : Fits (r .shape)) (C : CoreNow r 
     send-order : (n : ℕ) → InOrder c n → InOrder sent n
     send-order n (inl e) = inl e
     send-order n (inr e) =
-        let same : sent .message n ≡ c .message n = updated-other (c .message) (c .sends) n _ (omega arith) in
+        let same : sent .message n ≡ c .message n = updated-else (c .message) (c .sends) _ n (omega arith) in
         inr (omega arith, e .1 ∙ ap (λ (x : ℕ). x ∷ []) (sym same))
 
     claim-send : Change r h t (ClaimSend (successor S w))
@@ -97,7 +97,7 @@ module _ (r : Record) (h : Past) (t : ℕ) (F : Fits (r .shape)) (C : CoreNow r 
                 still = λ σ n e g. g;
                 own = λ σ n e g. (refl, refl);
                 took = λ n e. refl;
-                message = λ n e. updated-other (c .message) (c .sends) n _ (omega arith);
+                message = λ n e. updated-else (c .message) (c .sends) _ n (omega arith);
               };
           adds = record { one = one; mine = mine };
         }
@@ -120,7 +120,7 @@ module _ (r : Record) (h : Past) (t : ℕ) (F : Fits (r .shape)) (C : CoreNow r 
             (
               record { n = c .sends; is = send-word; made = ap (λ (l : List ℕ). c .sends ∷ l) (e .0 .0); ready = send-ready },
               e .0 .1,
-              updated-same (c .message) (c .sends) (b .carried),
+              updated-here (c .message) (c .sends) (b .carried),
               e .1,
             ),
           );

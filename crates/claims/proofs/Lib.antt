@@ -1,7 +1,6 @@
 pub mod Words
 pub mod Tails
 pub mod Lengths
-pub mod Updates
 pub mod Sides
 pub mod Core
 pub mod Owners

@@ -28,7 +28,7 @@ use Rattle.grown.proofs.Acts.{Cases, Onward}
 use Rattle.grown.proofs.Starts.{begun-at, never}
 use Rattle.grown.proofs.ArrayMoves.{fits, array-moves}
 use Rattle.claims.specs.Claims.{Claims, Call, Past, count, madeBy, madeAt, steppedPast, begunCall, rule}
-use Rattle.claims.proofs.Updates.{updated-same, updated-other}
+use Rattle.grown.proofs.Updates.{updated-here, updated-else}
 use Rattle.claims.proofs.Owners.{adds-begun, same-claims, owners-after}
 use Rattle.claims.proofs.Knows.{Stands}
 use Rattle.claims.proofs.Good.{Good}
@@ -100,9 +100,9 @@ module _ (capacity : ℕ) (M : Moment Past) (I : Inv capacity M) where
         stands = λ u.
             placed (StandsAt (afterBegin t first p) u) (r .threads) t u p tt
             (λ z.
-            rw (z, updated-same (h .calls) t first)
+            rw (z, updated-here (h .calls) t first)
             (first-place (r .shape) (r .array) (h .claims) m l d p (codeOf x) (rw (I .kept .flavour) at e)))
-            (λ n. rw (updated-other (h .calls) t u first n) (I .stands u));
+            (λ n. rw (updated-else (h .calls) t first u n) (I .stands u));
       }
     where
       first : Call
@@ -120,9 +120,9 @@ module _ (capacity : ℕ) (M : Moment Past) (I : Inv capacity M) where
             (afterStep t k (Array k) .past .calls) (λ σ u. same-claims (placeOf r u) (count (x .0)) _ σ);
         stands = λ u.
             placed (StandsAt (afterStep t k (Array k)) u) (r .threads) t u (placeAfterArray (o .next)) tt
-            (λ z. rw (z, e, updated-same (h .calls) t (x .1)) (good .stands))
+            (λ z. rw (z, e, updated-here (h .calls) t (x .1)) (good .stands))
             (λ n.
-            rw (updated-other (h .calls) t u (x .1) n)
+            rw (updated-else (h .calls) t (x .1) u n)
             (stable (r .shape) (fits r (I .kept)) (r .array) (applied (r .array) (o .effect)) (h .claims) (x .0) (h .calls u)
             (good .change .rely u n) (I .core) (good .change .adds .one) (λ σ i. I .owners .counted σ u i)
             (placeOf r u) (I .stands u)));

@@ -10,7 +10,7 @@ use Rattle.places.specs.declared.place.Place.{Place}
 use Rattle.places.specs.declared.place.Place.the-variants.{Idle, Array, Zero, Done}
 use Rattle.claims.specs.Claims.{Claims, Call, withMoment}
 use Rattle.claims.specs.Statement.{Unclaimed}
-use Rattle.claims.proofs.Updates.{updated-same, updated-other}
+use Rattle.grown.proofs.Updates.{updated-here, updated-else}
 use Rattle.claims.proofs.Sides.{Side, sending, receiving, other, made, claimsOf}
 
 -- A call's one claim has been counted, and is no other thread's.
@@ -68,10 +68,10 @@ module _ (c c' : Claims) (calls : ℕ → Call) (t : ℕ) (a' : Call) (O : Owner
     (calls' : ℕ → Call) (same : (σ : Side) (u : ℕ) → claimsOf σ (calls' u) ≡ claimsOf σ (updated calls t a' u)) where
   -- The claim of t's call, and of another.
   own : (σ : Side) (n : ℕ) → claimsOf σ (calls' t) ≡ n ∷ [] → HadOrNext c c' (calls t) σ n
-  own σ n e = A .mine σ n (sym (same σ t ∙ ap (claimsOf σ) (updated-same calls t a')) ∙ e)
+  own σ n e = A .mine σ n (sym (same σ t ∙ ap (claimsOf σ) (updated-here calls t a')) ∙ e)
 
   old : (σ : Side) (u n : ℕ) → u ≢ t → claimsOf σ (calls' u) ≡ n ∷ [] → claimsOf σ (calls u) ≡ n ∷ []
-  old σ u n z e = sym (same σ u ∙ ap (claimsOf σ) (updated-other calls t u a' z)) ∙ e
+  old σ u n z e = sym (same σ u ∙ ap (claimsOf σ) (updated-else calls t a' u z)) ∙ e
 
   counted : (σ : Side) (u n : ℕ) → Dec (u ≡ t) → claimsOf σ (calls' u) ≡ n ∷ [] → n < made σ c'
   counted σ u n (no z) e = omega (arith, O .counted σ u n (old σ u n z e), up c c' σ (A .one σ))

@@ -17,7 +17,7 @@ use Rattle.channel.specs.declared.array.outcome.ArrayEffect.the-variants.{Store
 use Rattle.schedule.specs.History.{updated}
 use Rattle.schedule.specs.declared.record.Record.{Record}
 use Rattle.claims.specs.Claims.{Claims, Past, newest}
-use Rattle.claims.proofs.Updates.{updated-same, updated-other}
+use Rattle.grown.proofs.Updates.{updated-here, updated-else}
 use Rattle.claims.proofs.Words.{slotFor, slot-below, word, index-of}
 use Rattle.claims.proofs.Tails.{Tail}
 use Rattle.claims.proofs.Sides.{stampIn, messageIn, Side, receiving, made, claimsOf, OneClaim, one-claim}
@@ -158,11 +158,11 @@ module _ (r : Record) (h : Past) (t : ℕ) (F : Fits (r .shape)) (C : CoreNow r 
 
     pub took-now : took (a .n) ≡ taken ∷ []
     took-now =
-        ap took (sym claim-is) ∙ updated-same (c .took) claim _
+        ap took (sym claim-is) ∙ updated-here (c .took) claim _
         ∙ ap (λ (l : List ℕ). taken ∷ l) (ap (c .took) claim-is ∙ none)
 
     took-other : (n : ℕ) → n ≢ a .n → took n ≡ c .took n
-    took-other n k = updated-other (c .took) claim n _ (λ q. k (q ∙ claim-is))
+    took-other n k = updated-else (c .took) claim _ n (λ q. k (q ∙ claim-is))
 
     take-order : (n : ℕ) → Dec (n ≡ a .n) → InOrder c n → InOrder (withTook c took) n
     take-order n (yes q) o =

@@ -28,7 +28,7 @@ use Rattle.grown.proofs.Starts.{at-place, never, begun-at}
 use Rattle.grown.proofs.Scene.{here}
 use Rattle.handover.specs.Meetings.{Past, begunCall}
 use Rattle.handover.proofs.Inv.{AtPlace, Inv}
-use Rattle.handover.proofs.Updates.{updated-here, updated-else}
+use Rattle.grown.proofs.Updates.{updated-here, updated-else}
 use Rattle.handover.proofs.Moments.{elsewhere, stage}
 use Rattle.handover.proofs.Touch.{keeps, Same, spares, Kept}
 use Rattle.handover.proofs.Steady.{same-mate, Load, steady}

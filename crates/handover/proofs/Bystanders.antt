@@ -31,7 +31,7 @@ use Rattle.grown.proofs.Turning.{Turned, stays, turns, turned-both}
 use Rattle.grown.proofs.ZeroMemory.{word-else, packet-else, same-words, at-queue, same-list}
 use Rattle.handover.specs.Meetings.{Past, opposedAfter, plain, brought, wordAt, packetOf}
 use Rattle.handover.specs.Statement.{aheadOf}
-use Rattle.handover.proofs.Updates.{updated-else}
+use Rattle.grown.proofs.Updates.{updated-else}
 use Rattle.handover.proofs.Queues.{ahead-joined-other, ahead-left}
 use Rattle.handover.proofs.Moments.{stepTo, elsewhere}
 use Rattle.handover.proofs.Touch.{Cut, Word, keeps, cuts, Same}

@@ -32,7 +32,7 @@ use Rattle.grown.proofs.Scene.{Scene, my-word, my-packet}
 use Rattle.handover.specs.Meetings.{Past, waitCode, pairOf, wordAt, packetOf}
 use Rattle.handover.specs.Statement.{Tells}
 use Rattle.handover.proofs.Inv.{Holding, Chosen, Waiter, CutOff, AtLeave, AtCall, Inv}
-use Rattle.handover.proofs.Updates.{updated-here}
+use Rattle.grown.proofs.Updates.{updated-here}
 use Rattle.handover.proofs.Moments.{stepTo, either, stage}
 use Rattle.handover.proofs.Keeping.{After, unnamed, alone, quiet}
 

@@ -37,7 +37,7 @@ use Rattle.grown.proofs.ZeroMemory.{same-words, list-here}
 use Rattle.handover.specs.Meetings.{Past, opposedAfter, packetOf}
 use Rattle.handover.specs.Statement.{queueAt, aheadOf, Registered, Tells}
 use Rattle.handover.proofs.Inv.{Holding, AtCall, Inv}
-use Rattle.handover.proofs.Updates.{updated-here}
+use Rattle.grown.proofs.Updates.{updated-here}
 use Rattle.handover.proofs.Queues.{ahead-joined, oldest-none}
 use Rattle.handover.proofs.Sides.{one-side}
 use Rattle.handover.proofs.Moments.{stepTo, either, stage, stands-at}

@@ -1,5 +1,4 @@
 pub mod Inv
-pub mod Updates
 pub mod Queues
 pub mod Sides
 pub mod Moments

@@ -33,7 +33,7 @@ use Rattle.handover.specs.Meetings.{Past, Pair, pairOf, wordAt, packetOf
 use Rattle.handover.specs.Statement.{Accepted, Met, Further, first, second, Ends, goes-on, answers}
 use Rattle.handover.proofs.Inv.{Joint, Chosen, AtWait, AtCall, AtPlace, Inv}
 use Rattle.handover.proofs.Sides.{Awaits, at-wait, at-ready, awaiting}
-use Rattle.handover.proofs.Updates.{updated-here}
+use Rattle.grown.proofs.Updates.{updated-here}
 use Rattle.handover.proofs.Waiters.{given}
 use Rattle.handover.proofs.Moments.{stepTo, afterStep, step-done, stands-at, either}
 

@@ -39,7 +39,7 @@ use Rattle.grown.proofs.Meetings.{pick-good}
 use Rattle.handover.specs.Meetings.{Past, Pair, pairOf, senderOf, wordAt}
 use Rattle.handover.specs.Statement.{queueAt, aheadOf, Waits}
 use Rattle.handover.proofs.Inv.{Holding, Joint, Chosen, Waiter, AtCall, AtPlace, Inv}
-use Rattle.handover.proofs.Updates.{updated-here, updated-else}
+use Rattle.grown.proofs.Updates.{updated-here, updated-else}
 use Rattle.handover.proofs.Queues.{ahead-less, oldest-least}
 use Rattle.handover.proofs.Sides.{twice, own-side, one-side}
 use Rattle.handover.proofs.Moments.{stepTo, stage, stands-at}

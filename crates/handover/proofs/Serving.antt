@@ -30,7 +30,7 @@ use Rattle.grown.proofs.Orderly.{viewOn, Picks}
 use Rattle.grown.proofs.Places.{naming}
 use Rattle.handover.specs.Meetings.{Past, pairOf, plain, wordAt, packetOf}
 use Rattle.handover.proofs.Inv.{Joint, Chosen, AtPlace, Inv}
-use Rattle.handover.proofs.Updates.{updated-here}
+use Rattle.grown.proofs.Updates.{updated-here}
 use Rattle.handover.proofs.Bystanders.{Spares}
 use Rattle.handover.proofs.Moments.{stepTo}
 use Rattle.handover.proofs.Touch.{serves}

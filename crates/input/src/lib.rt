@@ -1,8 +1,9 @@
 //! Standard input, read to its end: a read that fails is told from the end.
-ghost use Prim.Native.Nat.{_≤_, _<_, min};
+ghost use Prim.Native.Nat.{_+_, _≤_, _<_, min};
 ghost use mathlib.Core.Path.{_≡_};
 ghost use lib.ListN.{length};
-ghost use Rattle.input.specs.Input.{Within};
+ghost use lib.Seq.{paste};
+ghost use Rattle.input.specs.Input.{fitting, Within};
 use libc::STDIN_FILENO;
 
 /// So many bytes, up to the end of the input or of the buffer; or a read failed.
@@ -24,7 +25,8 @@ fn least(a: usize, b: usize) -> usize
 /// Puts as many of the first `n` bytes of `from` as fit into `buf` from `at` on, and answers where they end.
 fn put(buf: &mut [u8], at: usize, from: &[u8], n: usize) -> usize
     requires { ⌜ (at < length (now buf)) × (0 < n) × (n ≤ length (now from)) ⌝ }
-    ensures { λ r. ⌜ (at < r) × (r ≤ length (now (buf .exit))) ⌝ }
+    ensures { λ r. ⌜ r ≡ at + fitting n at (now (buf .entry)) ⌝ }
+    ensures { λ _. ⌜ now (buf .exit) ≡ paste (now (buf .entry)) at (now (from .entry)) (fitting n at (now (buf .entry))) ⌝ }
 {
     let count = least(n, buf.len() - at);
     let mut i = 0;

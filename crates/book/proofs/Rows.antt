@@ -4,8 +4,8 @@ use Rattle.waker.specs.Choice.{if_then_else_}
 use Rattle.waker.specs.Waker.{queueOf, without, mayPick, oldest}
 use Rattle.waker.specs.Wakers.{turnedAll}
 use Rattle.channel.specs.Position.{doubledTo, markOf, successor, unmarked}
-use Rattle.channel.specs.Array.{stampsFrom}
-use Rattle.channel.specs.ArraySteps.{lengthOf}
+use Rattle.array.specs.Array.{stampsFrom}
+use Rattle.channel.specs.Position.{lengthOf}
 use Rattle.places.specs.Tests.{allBelow}
 use Rattle.schedule.specs.Making.{madeArray, madeZero}
 use Rattle.places.specs.Begin.{codeOf}

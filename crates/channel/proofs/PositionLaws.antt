@@ -8,7 +8,7 @@ use lib.Dec.{leb}
 use borrow.Author.Tests.{leb-true, leb-false}
 use Rattle.waker.specs.Choice.{if_then_else_}
 use Rattle.channel.specs.Position.{slots, doubledTo, markOf, Mark, shapeOf}
-use Rattle.channel.specs.ArrayBounds.{Sized}
+use Rattle.channel.specs.PositionBounds.{Sized}
 
 pub mul-two : (m : ℕ) → m * 2 ≡ m + m
 mul-two m = omega arith

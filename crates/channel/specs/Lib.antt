@@ -1,10 +1,3 @@
 pub mod Answer
 pub mod Position
-pub mod ArrayOutcome
-pub mod ArraySteps
-pub mod Array
-pub mod ArrayBounds
-pub mod ZeroOutcome
-pub mod ZeroSteps
-pub mod Zero
-pub mod ZeroBounds
+pub mod PositionBounds

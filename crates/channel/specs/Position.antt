@@ -1,8 +1,8 @@
--- Mark, lap, index, successor: 01's "Array steps", its first sentences.
+-- Mark, lap, index, successor: 01's "Array steps", its first sentences; and the number between a head and a tail, of its `len`.
 use Prim.Native.Nat.{ℕ, zero, suc, _+_, _-_, _%_, _^_, _≤_}
 use mathlib.Core.Path.{_≡_}
 use mathlib.Core.Bool.{Bool}
-use lib.Dec.{ltb, leb}
+use lib.Dec.{ltb, leb, eqb}
 use Rattle.waker.specs.Choice.{if_then_else_}
 use Rattle.channel.specs.declared.position.Position.{Position}
 use Rattle.channel.specs.declared.position.Shape.{Shape}
@@ -50,3 +50,11 @@ module _ (S : Shape) (w : Position) where
 
   unfoldable pub unmarked : Position
   unmarked = if isMarked then at (w .0 - S .mark) else w
+
+-- With h and t the indexes: t - h if h < t; capacity - h + t if h > t; if equal, 0 when tail without mark is head, else capacity.
+unfoldable pub lengthOf : Shape → Position → Position → ℕ
+lengthOf S tail head =
+    if ltb (indexOf S head) (indexOf S tail) then indexOf S tail - indexOf S head
+    else if ltb (indexOf S tail) (indexOf S head) then S .capacity - indexOf S head + indexOf S tail
+    else if eqb (unmarked S tail .0) (head .0) then 0
+    else S .capacity

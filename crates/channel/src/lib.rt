@@ -1,5 +1,3 @@
-//! The array channel of `array.rs` and the rendezvous channel of `zero.rs`, one shared access or locked section a step.
+//! What the channels share with the schedule: answers, and the position words of the array.
 pub mod answer;
-pub mod array;
 pub mod position;
-pub mod zero;

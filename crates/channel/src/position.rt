@@ -1,8 +1,8 @@
 //! Position words: an index, a mark bit and a lap, packed into one word.
 ghost use mathlib.Core.Path.{_≡_};
 ghost use Prim.Native.Nat.{_<_, _^_};
-ghost use Rattle.channel.specs.Position.{markOf, shapeOf, indexOf, successor, isMarked, unmarked};
-ghost use Rattle.channel.specs.ArrayBounds.{Sized, Small};
+ghost use Rattle.channel.specs.Position.{markOf, shapeOf, indexOf, successor, isMarked, unmarked, lengthOf};
+ghost use Rattle.channel.specs.PositionBounds.{Sized, Small, Inside};
 
 /// The largest capacity of an array.
 pub const SLOTS: usize = 64;
@@ -81,5 +81,25 @@ impl Shape {
         } else {
             word
         }
+    }
+
+    /// The number of messages between a head and a tail.
+    pub fn length(self, tail: Position, head: Position) -> u32
+        requires { ⌜ Sized self × Inside self tail × Inside self head ⌝ }
+        ensures { λ r. ⌜ r ≡ lengthOf self tail head ⌝ }
+    {
+        let hix = head.0 % self.mark;
+        let tix = tail.0 % self.mark;
+        if hix < tix {
+            return (tix - hix) as u32;
+        }
+        if tix < hix {
+            return (self.capacity - hix + tix) as u32;
+        }
+        let bare = self.unmarked(tail);
+        if bare.0 == head.0 {
+            return 0;
+        }
+        self.capacity as u32
     }
 }

@@ -6,17 +6,17 @@ use mathlib.Core.List.{List, [], _∷_}
 use native.Mathlib.Omega.{arith}
 use native.Mathlib.Decide.{ℕ-discrete}
 use Rattle.channel.specs.Position.{successor}
-use Rattle.channel.specs.ArrayBounds.{Fits}
-use Rattle.channel.specs.ArrayOutcome.{writes}
-use Rattle.channel.specs.Array.{withHead, withTail}
+use Rattle.channel.specs.PositionBounds.{Fits}
+use Rattle.array.specs.ArrayOutcome.{writes}
+use Rattle.array.specs.Array.{withHead, withTail}
 use Rattle.channel.specs.declared.position.Position.{Position}
 use Rattle.channel.specs.declared.position.Shape.{Shape}
-use Rattle.channel.specs.declared.array.Array.{Array as Memory}
-use Rattle.channel.specs.declared.array.call.SendPlace.the-variants as send
-use Rattle.channel.specs.declared.array.call.ReceivePlace.the-variants as receive
-use Rattle.channel.specs.declared.array.call.ArrayCall.the-variants.{Send, Receive}
-use Rattle.channel.specs.declared.array.outcome.ArrayEffect.the-variants.{ClaimSend, ClaimReceive}
-use Rattle.channel.specs.declared.array.outcome.ArrayNext.the-variants.{Goes}
+use Rattle.array.specs.declared.Array.{Array as Memory}
+use Rattle.array.specs.declared.call.SendPlace.the-variants as send
+use Rattle.array.specs.declared.call.ReceivePlace.the-variants as receive
+use Rattle.array.specs.declared.call.ArrayCall.the-variants.{Send, Receive}
+use Rattle.array.specs.declared.outcome.ArrayEffect.the-variants.{ClaimSend, ClaimReceive}
+use Rattle.array.specs.declared.outcome.ArrayNext.the-variants.{Goes}
 use Rattle.places.specs.declared.begin.Code.the-variants as code
 use Rattle.schedule.specs.declared.record.Record.{Record}
 use Rattle.claims.specs.Claims.{Claims, Call, Past, claimedSend, claimedReceive}

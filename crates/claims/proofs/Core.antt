@@ -5,9 +5,9 @@ use mathlib.Core.Logic.{_⊎_}
 use mathlib.Core.List.{[], _∷_}
 use native.Mathlib.Omega.{arith}
 use lib.ListN.{length}
-use Rattle.channel.specs.ArrayBounds.{Fits}
+use Rattle.channel.specs.PositionBounds.{Fits}
 use Rattle.channel.specs.declared.position.Shape.{Shape}
-use Rattle.channel.specs.declared.array.Array.{Array as Memory}
+use Rattle.array.specs.declared.Array.{Array as Memory}
 use Rattle.claims.specs.Claims.{Claims}
 use Rattle.claims.proofs.Words.{slotFor, slot-below, word, word-inj, word-odd}
 use Rattle.claims.proofs.Tails.{Tail}

@@ -7,8 +7,8 @@ use native.Mathlib.Nat.{mod-eq-of-lt}
 use lib.ListN.{length-append, length-replicate}
 use Rattle.waker.specs.Context.{threads}
 use Rattle.channel.specs.Position.{slots, shapeOf}
-use Rattle.channel.specs.ArrayBounds.{Fits}
-use Rattle.channel.specs.Array.{freshArray}
+use Rattle.channel.specs.PositionBounds.{Fits}
+use Rattle.array.specs.Array.{freshArray}
 use Rattle.channel.specs.declared.position.Position.{Position}
 use Rattle.channel.specs.declared.position.Shape.{Shape}
 use Rattle.channel.proofs.PositionLaws.{sized}

@@ -4,13 +4,13 @@ use mathlib.Core.Path.{_≡_, refl}
 use mathlib.Core.Bool.{Bool, true, false}
 use mathlib.Core.Logic.{_≢_}
 use Rattle.waker.specs.Choice.{if_then_else_}
-use Rattle.channel.specs.ArrayOutcome.{goes, ends}
-use Rattle.channel.specs.Array.{applied}
+use Rattle.array.specs.ArrayOutcome.{goes, ends}
+use Rattle.array.specs.Array.{applied}
 use Rattle.channel.specs.declared.answer.Answer.{Answer}
-use Rattle.channel.specs.declared.array.call.ArrayCall.{ArrayCall}
-use Rattle.channel.specs.declared.array.outcome.ArrayEffect.{ArrayEffect}
-use Rattle.channel.specs.declared.array.outcome.ArrayEffect.the-variants.{Nothing}
-use Rattle.channel.specs.declared.array.outcome.ArrayOutcome.{ArrayOutcome}
+use Rattle.array.specs.declared.call.ArrayCall.{ArrayCall}
+use Rattle.array.specs.declared.outcome.ArrayEffect.{ArrayEffect}
+use Rattle.array.specs.declared.outcome.ArrayEffect.the-variants.{Nothing}
+use Rattle.array.specs.declared.outcome.ArrayOutcome.{ArrayOutcome}
 use Rattle.schedule.specs.Record.{placeAfterArray}
 use Rattle.places.specs.declared.place.Place.{Place}
 use Rattle.places.specs.declared.place.Place.the-variants.{Array, Done}

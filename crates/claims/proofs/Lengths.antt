@@ -9,8 +9,8 @@ use native.Mathlib.Decide.{decLe}
 use lib.Dec.{ltb, eqb}
 use borrow.Author.Tests.{ltb-true, ltb-false, eqb-true, eqb-false}
 use Rattle.waker.specs.Choice.{if_then_else_}
-use Rattle.channel.specs.ArrayBounds.{Fits}
-use Rattle.channel.specs.ArraySteps.{lengthOf}
+use Rattle.channel.specs.PositionBounds.{Fits}
+use Rattle.channel.specs.Position.{lengthOf}
 use Rattle.channel.specs.declared.position.Position.{Position}
 use Rattle.channel.specs.declared.position.Shape.{Shape}
 use Rattle.claims.proofs.Words.{slotFor, slot-below, lap-split, word, word-inj, index-of}

@@ -7,12 +7,12 @@ use native.Mathlib.Omega.{arith}
 use native.Mathlib.Decide.{ℕ-discrete, decLt}
 use lib.ListN.{getD, set, length, length-set, List·getD-eq-default}
 use lib.Seq.{getD-set-same, getD-set-other}
-use Rattle.channel.specs.Array.{outcomeOf, arrayStep, applied}
+use Rattle.array.specs.Array.{outcomeOf, arrayStep, applied}
 use Rattle.channel.specs.declared.answer.Tick.{Tick}
 use Rattle.channel.specs.declared.position.Shape.{Shape}
-use Rattle.channel.specs.declared.array.Array.{Array as Memory}
-use Rattle.channel.specs.declared.array.call.ArrayCall.{ArrayCall}
-use Rattle.channel.specs.declared.array.outcome.ArrayOutcome.{ArrayOutcome}
+use Rattle.array.specs.declared.Array.{Array as Memory}
+use Rattle.array.specs.declared.call.ArrayCall.{ArrayCall}
+use Rattle.array.specs.declared.outcome.ArrayOutcome.{ArrayOutcome}
 use Rattle.schedule.specs.Record.{threadAt, placeOf, placeAfterArray, withThread, afterArray}
 use Rattle.places.specs.Begin.{codeOf, unlimited, startedArray, started}
 use Rattle.schedule.specs.Form.{stepLimit}

@@ -8,8 +8,8 @@ use Rattle.waker.specs.Context.{thread}
 use Rattle.waker.specs.Waker.{queueOf}
 use Rattle.channel.specs.Answer.{ticks}
 use Rattle.channel.specs.Position.{doubledTo, markOf, successor, unmarked}
-use Rattle.channel.specs.Array.{stampsFrom}
-use Rattle.channel.specs.ArraySteps.{lengthOf}
+use Rattle.array.specs.Array.{stampsFrom}
+use Rattle.channel.specs.Position.{lengthOf}
 use Rattle.channel.specs.declared.answer.Answer.{Answer}
 use Rattle.channel.specs.declared.answer.Answer.the-variants.{Sent, Received, Full, Empty, Disconnected, Number, Yes, No}
 use Rattle.places.specs.Tests.{allBelow}

@@ -4,11 +4,11 @@ use mathlib.Core.Path.{_≡_, refl, sym, ap, _∙_}
 use mathlib.Core.Logic.{_⊎_, inl, inr, _≢_}
 use mathlib.Core.List.{List, [], _∷_}
 use native.Mathlib.Omega.{arith}
-use Rattle.channel.specs.ArrayBounds.{Fits}
-use Rattle.channel.specs.Array.{withTail}
+use Rattle.channel.specs.PositionBounds.{Fits}
+use Rattle.array.specs.Array.{withTail}
 use Rattle.channel.specs.declared.position.Position.{Position}
 use Rattle.channel.specs.declared.position.Shape.{Shape}
-use Rattle.channel.specs.declared.array.Array.{Array as Memory}
+use Rattle.array.specs.declared.Array.{Array as Memory}
 use Rattle.claims.specs.Claims.{Claims, Call}
 use Rattle.claims.proofs.Words.{slotFor, word}
 use Rattle.claims.proofs.Sides.{stampIn, messageIn, Side, made, claimsOf, ReadyFor, OneClaim, one-claim}

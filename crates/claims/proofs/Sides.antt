@@ -5,9 +5,9 @@ use mathlib.Core.List.{List}
 use native.Mathlib.Omega.{arith}
 use lib.ListN.{getD}
 use Rattle.channel.specs.Position.{at}
-use Rattle.channel.specs.ArrayBounds.{Fits}
+use Rattle.channel.specs.PositionBounds.{Fits}
 use Rattle.channel.specs.declared.position.Shape.{Shape}
-use Rattle.channel.specs.declared.array.Array.{Array as Memory}
+use Rattle.array.specs.declared.Array.{Array as Memory}
 use Rattle.claims.specs.Claims.{Claims, Call}
 use Rattle.claims.proofs.Words.{slotFor, word, word-inj, word-odd}
 

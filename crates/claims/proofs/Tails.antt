@@ -5,7 +5,7 @@ use mathlib.Core.Bool.{false}
 use native.Mathlib.Omega.{arith}
 use Rattle.waker.specs.Choice.{if_then_else_}
 use Rattle.channel.specs.Position.{indexOf, isMarked, unmarked}
-use Rattle.channel.specs.ArrayBounds.{Fits}
+use Rattle.channel.specs.PositionBounds.{Fits}
 use Rattle.channel.specs.declared.position.Position.{Position}
 use Rattle.channel.specs.declared.position.Shape.{Shape}
 use Rattle.grown.proofs.Tests.{clash}

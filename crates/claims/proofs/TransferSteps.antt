@@ -6,16 +6,16 @@ use native.Mathlib.Omega.{arith}
 use lib.Dec.{eqb}
 use borrow.Author.Tests.{eqb-true}
 use Rattle.channel.specs.Position.{at, indexOf, isMarked, unmarked}
-use Rattle.channel.specs.ArrayBounds.{Fits}
-use Rattle.channel.specs.ArraySteps.{sendStep, receiveStep}
-use Rattle.channel.specs.Array.{sendSlot, receiveSlot, cellsAt, withStamp}
+use Rattle.channel.specs.PositionBounds.{Fits}
+use Rattle.array.specs.ArraySteps.{sendStep, receiveStep}
+use Rattle.array.specs.Array.{sendSlot, receiveSlot, cellsAt, withStamp}
 use Rattle.channel.specs.declared.position.Position.{Position}
 use Rattle.channel.specs.declared.position.Shape.{Shape}
-use Rattle.channel.specs.declared.array.Array.{Array as Memory}
-use Rattle.channel.specs.declared.array.call.SendPlace.{SendPlace}
-use Rattle.channel.specs.declared.array.call.SendPlace.the-variants as send
-use Rattle.channel.specs.declared.array.call.ReceivePlace.{ReceivePlace}
-use Rattle.channel.specs.declared.array.call.ReceivePlace.the-variants as receive
+use Rattle.array.specs.declared.Array.{Array as Memory}
+use Rattle.array.specs.declared.call.SendPlace.{SendPlace}
+use Rattle.array.specs.declared.call.SendPlace.the-variants as send
+use Rattle.array.specs.declared.call.ReceivePlace.{ReceivePlace}
+use Rattle.array.specs.declared.call.ReceivePlace.the-variants as receive
 use Rattle.places.specs.declared.begin.Code.the-variants as code
 use Rattle.schedule.specs.declared.record.Record.{Record}
 use Rattle.claims.specs.Claims.{Claims, Call, Past}

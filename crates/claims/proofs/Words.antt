@@ -8,7 +8,7 @@ use lib.Dec.{ltb}
 use borrow.Author.Tests.{ltb-true, ltb-false, le-leb, lt-leb}
 use Rattle.waker.specs.Choice.{if_then_else_}
 use Rattle.channel.specs.Position.{at, indexOf, successor, isMarked}
-use Rattle.channel.specs.ArrayBounds.{Fits}
+use Rattle.channel.specs.PositionBounds.{Fits}
 use Rattle.channel.specs.declared.position.Position.{Position}
 use Rattle.channel.specs.declared.position.Shape.{Shape}
 use Rattle.grown.proofs.Words.{mod-at}

@@ -8,12 +8,12 @@ use native.Mathlib.Decide.{ℕ-discrete}
 use lib.ListN.{getD, length-set}
 use lib.Seq.{getD-set-same, getD-set-other}
 use Rattle.channel.specs.Position.{at, indexOf}
-use Rattle.channel.specs.ArrayBounds.{Fits}
-use Rattle.channel.specs.Array.{withTail, withMessage, withStamp}
+use Rattle.channel.specs.PositionBounds.{Fits}
+use Rattle.array.specs.Array.{withTail, withMessage, withStamp}
 use Rattle.channel.specs.declared.position.Position.{Position}
 use Rattle.channel.specs.declared.position.Shape.{Shape}
-use Rattle.channel.specs.declared.array.Array.{Array as Memory}
-use Rattle.channel.specs.declared.array.outcome.ArrayEffect.the-variants.{StoreMessage, TakeMessage, StoreStamp, MarkTail}
+use Rattle.array.specs.declared.Array.{Array as Memory}
+use Rattle.array.specs.declared.outcome.ArrayEffect.the-variants.{StoreMessage, TakeMessage, StoreStamp, MarkTail}
 use Rattle.schedule.specs.History.{updated}
 use Rattle.schedule.specs.declared.record.Record.{Record}
 use Rattle.claims.specs.Claims.{Claims, Past, newest}

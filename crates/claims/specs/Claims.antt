@@ -2,9 +2,9 @@
 use Prim.Native.Nat.{ℕ, _+_, _-_}
 use mathlib.Core.List.{List, [], _∷_}
 use lib.ListN.{getD}
-use Rattle.channel.specs.Array.{outcomeOf}
-use Rattle.channel.specs.declared.array.outcome.ArrayEffect.{ArrayEffect}
-use Rattle.channel.specs.declared.array.outcome.ArrayEffect.the-variants.{Nothing, ClaimSend, ClaimReceive, StoreMessage, TakeMessage, StoreStamp, MarkTail}
+use Rattle.array.specs.Array.{outcomeOf}
+use Rattle.array.specs.declared.outcome.ArrayEffect.{ArrayEffect}
+use Rattle.array.specs.declared.outcome.ArrayEffect.the-variants.{Nothing, ClaimSend, ClaimReceive, StoreMessage, TakeMessage, StoreStamp, MarkTail}
 use Rattle.schedule.specs.Record.{placeOf}
 use Rattle.places.specs.Begin.{codeOf, carriedBy}
 use Rattle.schedule.specs.History.{Act, begins, steps, advances, takes, Moment, reached, updated}

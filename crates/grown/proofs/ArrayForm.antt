@@ -12,22 +12,22 @@ use Rattle.waker.specs.Waker.{queueOf}
 use Rattle.waker.specs.Wakers.{wordOf}
 use Rattle.waker.specs.declared.context.Selected.the-variants as word
 use Rattle.channel.specs.Position.{slots, markOf, shapeOf}
-use Rattle.channel.specs.ArrayBounds.{Fits, Sized}
-use Rattle.channel.specs.Zero.{noPacket, packetAt}
+use Rattle.channel.specs.PositionBounds.{Fits, Sized}
+use Rattle.zero.specs.Zero.{noPacket, packetAt}
 use Rattle.channel.specs.declared.position.Position.{Position}
 use Rattle.channel.specs.declared.position.Shape.{Shape}
-use Rattle.channel.specs.declared.array.call.SendPlace.{SendPlace}
-use Rattle.channel.specs.declared.array.call.SendPlace.the-variants as send
-use Rattle.channel.specs.declared.array.call.ReceivePlace.{ReceivePlace}
-use Rattle.channel.specs.declared.array.call.ReceivePlace.the-variants as receive
-use Rattle.channel.specs.declared.array.call.LenPlace.{LenPlace}
-use Rattle.channel.specs.declared.array.call.LenPlace.the-variants as len
-use Rattle.channel.specs.declared.array.call.IsEmptyPlace.{IsEmptyPlace}
-use Rattle.channel.specs.declared.array.call.IsEmptyPlace.the-variants as is-empty
-use Rattle.channel.specs.declared.array.call.IsFullPlace.{IsFullPlace}
-use Rattle.channel.specs.declared.array.call.IsFullPlace.the-variants as is-full
-use Rattle.channel.specs.declared.array.call.ArrayCall.{ArrayCall}
-use Rattle.channel.specs.declared.array.call.ArrayCall.the-variants.{Send, Receive, Len, IsEmpty, IsFull, IsDisconnected, Disconnect}
+use Rattle.array.specs.declared.call.SendPlace.{SendPlace}
+use Rattle.array.specs.declared.call.SendPlace.the-variants as send
+use Rattle.array.specs.declared.call.ReceivePlace.{ReceivePlace}
+use Rattle.array.specs.declared.call.ReceivePlace.the-variants as receive
+use Rattle.array.specs.declared.call.LenPlace.{LenPlace}
+use Rattle.array.specs.declared.call.LenPlace.the-variants as len
+use Rattle.array.specs.declared.call.IsEmptyPlace.{IsEmptyPlace}
+use Rattle.array.specs.declared.call.IsEmptyPlace.the-variants as is-empty
+use Rattle.array.specs.declared.call.IsFullPlace.{IsFullPlace}
+use Rattle.array.specs.declared.call.IsFullPlace.the-variants as is-full
+use Rattle.array.specs.declared.call.ArrayCall.{ArrayCall}
+use Rattle.array.specs.declared.call.ArrayCall.the-variants.{Send, Receive, Len, IsEmpty, IsFull, IsDisconnected, Disconnect}
 use Rattle.channel.proofs.PositionLaws.{sized}
 use Rattle.places.specs.Tests.{allBelow}
 use Rattle.schedule.specs.Record.{placeOf}

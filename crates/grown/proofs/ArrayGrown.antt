@@ -7,8 +7,8 @@ use native.Mathlib.Nat.{zero-mod, mod-eq-of-lt}
 use lib.ListN.{getD, length, List·getD-append}
 use Rattle.waker.specs.Context.{threads}
 use Rattle.channel.specs.Position.{slots, at, shapeOf}
-use Rattle.channel.specs.ArrayBounds.{Fits}
-use Rattle.channel.specs.Array.{stampsFrom, freshArray}
+use Rattle.channel.specs.PositionBounds.{Fits}
+use Rattle.array.specs.Array.{stampsFrom, freshArray}
 use Rattle.channel.specs.declared.position.Position.{Position}
 use Rattle.channel.proofs.PositionLaws.{sized}
 use Rattle.schedule.specs.Record.{threadAt, acceptedAs}

@@ -3,21 +3,21 @@ use Prim.Native.Nat.{ℕ, _*_, _<_, _≤_}
 use mathlib.Core.Path.{_≡_}
 use lib.ListN.{getD}
 use Rattle.channel.specs.Position.{slots, at, shapeOf}
-use Rattle.channel.specs.Zero.{freshZero}
+use Rattle.zero.specs.Zero.{freshZero}
 use Rattle.channel.specs.declared.position.Shape.{Shape}
-use Rattle.channel.specs.declared.array.Array.{Array as Memory}
-use Rattle.channel.specs.declared.array.call.SendPlace.{SendPlace}
-use Rattle.channel.specs.declared.array.call.SendPlace.the-variants as send
-use Rattle.channel.specs.declared.array.call.ReceivePlace.{ReceivePlace}
-use Rattle.channel.specs.declared.array.call.ReceivePlace.the-variants as receive
-use Rattle.channel.specs.declared.array.call.LenPlace.{LenPlace}
-use Rattle.channel.specs.declared.array.call.LenPlace.the-variants as len
-use Rattle.channel.specs.declared.array.call.IsEmptyPlace.{IsEmptyPlace}
-use Rattle.channel.specs.declared.array.call.IsEmptyPlace.the-variants as is-empty
-use Rattle.channel.specs.declared.array.call.IsFullPlace.{IsFullPlace}
-use Rattle.channel.specs.declared.array.call.IsFullPlace.the-variants as is-full
-use Rattle.channel.specs.declared.array.call.ArrayCall.{ArrayCall}
-use Rattle.channel.specs.declared.array.call.ArrayCall.the-variants.{Send, Receive, Len, IsEmpty, IsFull, IsDisconnected, Disconnect}
+use Rattle.array.specs.declared.Array.{Array as Memory}
+use Rattle.array.specs.declared.call.SendPlace.{SendPlace}
+use Rattle.array.specs.declared.call.SendPlace.the-variants as send
+use Rattle.array.specs.declared.call.ReceivePlace.{ReceivePlace}
+use Rattle.array.specs.declared.call.ReceivePlace.the-variants as receive
+use Rattle.array.specs.declared.call.LenPlace.{LenPlace}
+use Rattle.array.specs.declared.call.LenPlace.the-variants as len
+use Rattle.array.specs.declared.call.IsEmptyPlace.{IsEmptyPlace}
+use Rattle.array.specs.declared.call.IsEmptyPlace.the-variants as is-empty
+use Rattle.array.specs.declared.call.IsFullPlace.{IsFullPlace}
+use Rattle.array.specs.declared.call.IsFullPlace.the-variants as is-full
+use Rattle.array.specs.declared.call.ArrayCall.{ArrayCall}
+use Rattle.array.specs.declared.call.ArrayCall.the-variants.{Send, Receive, Len, IsEmpty, IsFull, IsDisconnected, Disconnect}
 use Rattle.schedule.specs.Record.{placeOf}
 use Rattle.places.specs.declared.place.Flavour.the-variants as flavour
 use Rattle.places.specs.declared.place.Place.{Place}

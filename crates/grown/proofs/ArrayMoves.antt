@@ -3,11 +3,11 @@ use Prim.Native.Nat.{ℕ, _+_, _*_, _<_}
 use mathlib.Core.Path.{_≡_, refl}
 use native.Mathlib.Omega.{arith}
 use Rattle.channel.specs.Position.{at}
-use Rattle.channel.specs.ArrayBounds.{Fits}
-use Rattle.channel.specs.Array.{outcomeOf, arrayStep}
+use Rattle.channel.specs.PositionBounds.{Fits}
+use Rattle.array.specs.Array.{outcomeOf, arrayStep}
 use Rattle.channel.specs.declared.answer.Tick.{Tick}
 use Rattle.channel.specs.declared.position.Shape.{Shape}
-use Rattle.channel.specs.declared.array.call.ArrayCall.{ArrayCall}
+use Rattle.array.specs.declared.call.ArrayCall.{ArrayCall}
 use Rattle.channel.proofs.PositionLaws.{sized}
 use Rattle.schedule.specs.Record.{threadAt, placeOf, placeAfterArray, withThread, afterArray}
 use Rattle.places.specs.Begin.{codeOf, unlimited, startedArray}

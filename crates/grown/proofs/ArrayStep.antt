@@ -6,27 +6,27 @@ use native.Mathlib.Omega.{arith}
 use lib.Dec.{eqb}
 use Rattle.waker.specs.Choice.{if_then_else_}
 use Rattle.channel.specs.Position.{at, indexOf, isMarked}
-use Rattle.channel.specs.ArrayBounds.{Fits}
-use Rattle.channel.specs.ArrayOutcome.{goes, ends}
-use Rattle.channel.specs.ArraySteps.{sendStep, receiveStep, lenStep, isEmptyStep, isFullStep, disconnectStep, says}
-use Rattle.channel.specs.Array.{cellsAt, outcomeOf, withHead, withTail, withMessage, withStamp, applied}
+use Rattle.channel.specs.PositionBounds.{Fits}
+use Rattle.array.specs.ArrayOutcome.{goes, ends}
+use Rattle.array.specs.ArraySteps.{sendStep, receiveStep, lenStep, isEmptyStep, isFullStep, disconnectStep, says}
+use Rattle.array.specs.Array.{cellsAt, outcomeOf, withHead, withTail, withMessage, withStamp, applied}
 use Rattle.channel.specs.declared.answer.Answer.{Answer}
 use Rattle.channel.specs.declared.position.Position.{Position}
 use Rattle.channel.specs.declared.position.Shape.{Shape}
-use Rattle.channel.specs.declared.array.Array.{Array as Memory}
-use Rattle.channel.specs.declared.array.outcome.ArrayOutcome.{ArrayOutcome}
-use Rattle.channel.specs.declared.array.call.SendPlace.{SendPlace}
-use Rattle.channel.specs.declared.array.call.SendPlace.the-variants as send
-use Rattle.channel.specs.declared.array.call.ReceivePlace.{ReceivePlace}
-use Rattle.channel.specs.declared.array.call.ReceivePlace.the-variants as receive
-use Rattle.channel.specs.declared.array.call.LenPlace.{LenPlace}
-use Rattle.channel.specs.declared.array.call.LenPlace.the-variants as len
-use Rattle.channel.specs.declared.array.call.IsEmptyPlace.{IsEmptyPlace}
-use Rattle.channel.specs.declared.array.call.IsEmptyPlace.the-variants as is-empty
-use Rattle.channel.specs.declared.array.call.IsFullPlace.{IsFullPlace}
-use Rattle.channel.specs.declared.array.call.IsFullPlace.the-variants as is-full
-use Rattle.channel.specs.declared.array.call.ArrayCall.{ArrayCall}
-use Rattle.channel.specs.declared.array.call.ArrayCall.the-variants.{Send, Receive, Len, IsEmpty, IsFull, IsDisconnected, Disconnect}
+use Rattle.array.specs.declared.Array.{Array as Memory}
+use Rattle.array.specs.declared.outcome.ArrayOutcome.{ArrayOutcome}
+use Rattle.array.specs.declared.call.SendPlace.{SendPlace}
+use Rattle.array.specs.declared.call.SendPlace.the-variants as send
+use Rattle.array.specs.declared.call.ReceivePlace.{ReceivePlace}
+use Rattle.array.specs.declared.call.ReceivePlace.the-variants as receive
+use Rattle.array.specs.declared.call.LenPlace.{LenPlace}
+use Rattle.array.specs.declared.call.LenPlace.the-variants as len
+use Rattle.array.specs.declared.call.IsEmptyPlace.{IsEmptyPlace}
+use Rattle.array.specs.declared.call.IsEmptyPlace.the-variants as is-empty
+use Rattle.array.specs.declared.call.IsFullPlace.{IsFullPlace}
+use Rattle.array.specs.declared.call.IsFullPlace.the-variants as is-full
+use Rattle.array.specs.declared.call.ArrayCall.{ArrayCall}
+use Rattle.array.specs.declared.call.ArrayCall.the-variants.{Send, Receive, Len, IsEmpty, IsFull, IsDisconnected, Disconnect}
 use Rattle.schedule.specs.Record.{placeAfterArray}
 use Rattle.places.specs.declared.place.Place.{Place}
 use Rattle.places.specs.declared.place.Place.the-variants.{Idle, Array, Zero, Done}

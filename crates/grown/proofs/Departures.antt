@@ -13,14 +13,14 @@ use Rattle.waker.specs.declared.context.Selected.{Selected}
 use Rattle.waker.specs.declared.context.Selected.the-variants.{Waiting, Picked, Aborted, Disconnected}
 use Rattle.waker.specs.declared.wakers.Side.{Side}
 use Rattle.waker.proofs.WakerLaws.{entries-queueOf}
-use Rattle.channel.specs.ZeroOutcome.{writes}
-use Rattle.channel.specs.Zero.{packet, noPacket, packetAt, keptAtLeave, applied}
+use Rattle.zero.specs.ZeroOutcome.{writes}
+use Rattle.zero.specs.Zero.{packet, noPacket, packetAt, keptAtLeave, applied}
 use Rattle.channel.specs.declared.answer.Tick.{Tick}
 use Rattle.channel.specs.declared.answer.Answer.{Answer}
-use Rattle.channel.specs.declared.zero.Zero.{Zero as Memory}
-use Rattle.channel.specs.declared.zero.outcome.ZeroEffect.the-variants as effect
-use Rattle.channel.specs.declared.zero.outcome.ZeroNext.the-variants.{Goes, Ends}
-use Rattle.channel.specs.declared.zero.call.ZeroCall.the-variants.{Wait, ReadyWait, Leave}
+use Rattle.zero.specs.declared.Zero.{Zero as Memory}
+use Rattle.zero.specs.declared.outcome.ZeroEffect.the-variants as effect
+use Rattle.zero.specs.declared.outcome.ZeroNext.the-variants.{Goes, Ends}
+use Rattle.zero.specs.declared.call.ZeroCall.the-variants.{Wait, ReadyWait, Leave}
 use Rattle.places.specs.FormWaits.{isPicked, mayLeave, timesIn}
 use Rattle.places.specs.declared.place.Place.the-variants.{Zero, Done}
 use Rattle.schedule.specs.declared.record.ThreadRecord.{ThreadRecord}

@@ -16,19 +16,19 @@ use Rattle.waker.specs.declared.waker.Waker.{Waker}
 use Rattle.waker.specs.declared.waker.Found.the-variants.{At}
 use Rattle.waker.specs.declared.wakers.Side.{Side}
 use Rattle.waker.proofs.WakerLaws.{entries-queueOf}
-use Rattle.channel.specs.ZeroOutcome.{writes}
-use Rattle.channel.specs.ZeroSteps.{sideOf, messageOf, partnerFor}
-use Rattle.channel.specs.Zero.{packet, noPacket, packetAt, withPacket, applied}
+use Rattle.zero.specs.ZeroOutcome.{writes}
+use Rattle.zero.specs.ZeroSteps.{sideOf, messageOf, partnerFor}
+use Rattle.zero.specs.Zero.{packet, noPacket, packetAt, withPacket, applied}
 use Rattle.channel.specs.declared.answer.Tick.{Tick}
-use Rattle.channel.specs.declared.zero.Packet.{Packet}
-use Rattle.channel.specs.declared.zero.Zero.{Zero as Memory}
-use Rattle.channel.specs.declared.zero.outcome.ZeroEffect.the-variants as effect
-use Rattle.channel.specs.declared.zero.outcome.ZeroNext.the-variants.{Goes}
-use Rattle.channel.specs.declared.zero.call.Offer.{Offer}
-use Rattle.channel.specs.declared.zero.call.Offer.the-variants.{Send, Receive}
-use Rattle.channel.specs.declared.zero.call.Limit.{Limit}
-use Rattle.channel.specs.declared.zero.call.Limit.the-variants.{Until}
-use Rattle.channel.specs.declared.zero.call.ZeroCall.the-variants.{First, Wait}
+use Rattle.zero.specs.declared.Packet.{Packet}
+use Rattle.zero.specs.declared.Zero.{Zero as Memory}
+use Rattle.zero.specs.declared.outcome.ZeroEffect.the-variants as effect
+use Rattle.zero.specs.declared.outcome.ZeroNext.the-variants.{Goes}
+use Rattle.zero.specs.declared.call.Offer.{Offer}
+use Rattle.zero.specs.declared.call.Offer.the-variants.{Send, Receive}
+use Rattle.zero.specs.declared.call.Limit.{Limit}
+use Rattle.zero.specs.declared.call.Limit.the-variants.{Until}
+use Rattle.zero.specs.declared.call.ZeroCall.the-variants.{First, Wait}
 use Rattle.places.specs.FormWaits.{queuedAt, standsOn, partnerOf, timesIn}
 use Rattle.places.specs.declared.waits.Partner.the-variants.{Of}
 use Rattle.places.specs.declared.place.Place.{Place}

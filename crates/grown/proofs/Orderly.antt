@@ -12,11 +12,11 @@ use Rattle.waker.specs.declared.context.Selected.{Selected}
 use Rattle.waker.specs.declared.context.Selected.the-variants as word
 use Rattle.waker.specs.declared.wakers.Side.{Side}
 use Rattle.waker.specs.declared.wakers.Side.the-variants.{Receiver}
-use Rattle.channel.specs.Zero.{packetAt}
-use Rattle.channel.specs.declared.zero.Packet.{Packet}
-use Rattle.channel.specs.declared.zero.Zero.{Zero as Memory}
-use Rattle.channel.specs.declared.zero.call.ZeroCall.{ZeroCall}
-use Rattle.channel.specs.declared.zero.call.ZeroCall.the-variants.{First, Put, PutReady, Take, TakeReady, Wait, ReadyWait, Leave, Ask}
+use Rattle.zero.specs.Zero.{packetAt}
+use Rattle.zero.specs.declared.Packet.{Packet}
+use Rattle.zero.specs.declared.Zero.{Zero as Memory}
+use Rattle.zero.specs.declared.call.ZeroCall.{ZeroCall}
+use Rattle.zero.specs.declared.call.ZeroCall.the-variants.{First, Put, PutReady, Take, TakeReady, Wait, ReadyWait, Leave, Ask}
 use Rattle.schedule.specs.Record.{threadAt}
 use Rattle.places.specs.FormWaits.{isPicked, mayLeave, standsOn, awaits, partnerOf, timesIn}
 use Rattle.places.specs.declared.waits.Partner.the-variants.{Of}

@@ -14,10 +14,10 @@ use Rattle.waker.specs.declared.context.Thread.{Thread}
 use Rattle.waker.specs.declared.context.Context.{Context}
 use Rattle.waker.specs.declared.context.Selected.{Selected}
 use Rattle.waker.specs.declared.wakers.Side.{Side}
-use Rattle.channel.specs.Zero.{packet, packetAt, withPacket, applied}
-use Rattle.channel.specs.declared.zero.Packet.{Packet}
-use Rattle.channel.specs.declared.zero.Zero.{Zero as Memory}
-use Rattle.channel.specs.declared.zero.outcome.ZeroOutcome.{ZeroOutcome}
+use Rattle.zero.specs.Zero.{packet, packetAt, withPacket, applied}
+use Rattle.zero.specs.declared.Packet.{Packet}
+use Rattle.zero.specs.declared.Zero.{Zero as Memory}
+use Rattle.zero.specs.declared.outcome.ZeroOutcome.{ZeroOutcome}
 use Rattle.schedule.specs.Record.{threadAt, placeAfterZero}
 use Rattle.places.specs.FormWaits.{queuedAt, standsOn, awaits, partnerOf, timesIn}
 use Rattle.places.specs.declared.waits.Partner.the-variants.{None}

@@ -16,13 +16,13 @@ use Rattle.waker.specs.declared.context.Selected.{Selected}
 use Rattle.waker.specs.declared.wakers.Side.{Side}
 use Rattle.waker.specs.declared.wakers.Side.the-variants.{Sender, Receiver}
 use Rattle.channel.specs.Position.{slots, at}
-use Rattle.channel.specs.Array.{stampsFrom}
+use Rattle.array.specs.Array.{stampsFrom}
 use Rattle.channel.specs.declared.position.Position.{Position}
 use Rattle.channel.specs.declared.position.Shape.{Shape}
-use Rattle.channel.specs.declared.array.Array.{Array as Memory}
-use Rattle.channel.specs.declared.zero.Packet.{Packet}
-use Rattle.channel.specs.declared.zero.call.ZeroCall.{ZeroCall}
-use Rattle.channel.specs.declared.zero.call.ZeroCall.the-variants.{First, Put, PutReady, Take, TakeReady, Wait, ReadyWait, Leave, Ask}
+use Rattle.array.specs.declared.Array.{Array as Memory}
+use Rattle.zero.specs.declared.Packet.{Packet}
+use Rattle.zero.specs.declared.call.ZeroCall.{ZeroCall}
+use Rattle.zero.specs.declared.call.ZeroCall.the-variants.{First, Put, PutReady, Take, TakeReady, Wait, ReadyWait, Leave, Ask}
 use Rattle.schedule.specs.Record.{placeOf}
 use Rattle.schedule.specs.Making.{noShape}
 use Rattle.places.specs.FormSaved.{slotInForm}

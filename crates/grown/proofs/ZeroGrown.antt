@@ -11,7 +11,7 @@ use Rattle.waker.specs.declared.context.Selected.the-variants.{Waiting}
 use Rattle.waker.specs.declared.wakers.Side.{Side}
 use Rattle.waker.specs.declared.wakers.Side.the-variants.{Sender, Receiver}
 use Rattle.waker.proofs.WakerLaws.{entries-queueOf}
-use Rattle.channel.specs.Zero.{noPacket, freshZero}
+use Rattle.zero.specs.Zero.{noPacket, freshZero}
 use Rattle.schedule.specs.Record.{threadAt, placeOf, acceptedAs}
 use Rattle.schedule.specs.Making.{madeZero, freshZeroRecord}
 use Rattle.places.specs.FormWaits.{partnerOf, timesIn}

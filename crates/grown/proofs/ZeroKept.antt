@@ -9,8 +9,8 @@ use Rattle.waker.specs.Waker.{entries, queueOf}
 use Rattle.waker.specs.Wakers.{queueOn, listed, wordOf}
 use Rattle.waker.specs.declared.waker.Waker.{Waker}
 use Rattle.waker.specs.declared.wakers.Side.{Side}
-use Rattle.channel.specs.Array.{freshArray}
-use Rattle.channel.specs.declared.zero.Zero.{Zero as Memory}
+use Rattle.array.specs.Array.{freshArray}
+use Rattle.zero.specs.declared.Zero.{Zero as Memory}
 use Rattle.schedule.specs.Record.{placeOf}
 use Rattle.schedule.specs.Making.{noShape}
 use Rattle.places.specs.FormWaits.{timesIn}

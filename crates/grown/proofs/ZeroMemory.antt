@@ -17,9 +17,9 @@ use Rattle.waker.specs.declared.wakers.Side.{Side}
 use Rattle.waker.specs.declared.wakers.Side.the-variants.{Sender, Receiver}
 use Rattle.waker.specs.declared.wakers.Wakers.{Wakers}
 use Rattle.waker.proofs.WakerLaws.{entries-queueOf}
-use Rattle.channel.specs.Zero.{noPacket, packetAt, withWakers, withPacket}
-use Rattle.channel.specs.declared.zero.Packet.{Packet}
-use Rattle.channel.specs.declared.zero.Zero.{Zero as Memory}
+use Rattle.zero.specs.Zero.{noPacket, packetAt, withWakers, withPacket}
+use Rattle.zero.specs.declared.Packet.{Packet}
+use Rattle.zero.specs.declared.Zero.{Zero as Memory}
 use Rattle.grown.proofs.ZeroKept.{Tidy, Sound}
 
 -- One word, or one packet, and the others.

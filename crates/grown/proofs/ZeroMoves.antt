@@ -8,15 +8,15 @@ use Rattle.waker.specs.Context.{threads, thread}
 use Rattle.waker.specs.declared.context.Thread.{Thread}
 use Rattle.waker.specs.declared.context.Selected.{Selected}
 use Rattle.waker.specs.declared.wakers.Side.{Side}
-use Rattle.channel.specs.Zero.{outcomeOf, zeroStep}
+use Rattle.zero.specs.Zero.{outcomeOf, zeroStep}
 use Rattle.channel.specs.declared.answer.Tick.{Tick}
-use Rattle.channel.specs.declared.zero.Packet.{Packet}
+use Rattle.zero.specs.declared.Packet.{Packet}
 use Rattle.channel.specs.declared.answer.Answer.{Answer}
-use Rattle.channel.specs.declared.zero.call.Offer.{Offer}
-use Rattle.channel.specs.declared.zero.call.Limit.{Limit}
-use Rattle.channel.specs.declared.zero.call.Question.{Question}
-use Rattle.channel.specs.declared.zero.call.ZeroCall.{ZeroCall}
-use Rattle.channel.specs.declared.zero.call.ZeroCall.the-variants.{First, Ask}
+use Rattle.zero.specs.declared.call.Offer.{Offer}
+use Rattle.zero.specs.declared.call.Limit.{Limit}
+use Rattle.zero.specs.declared.call.Question.{Question}
+use Rattle.zero.specs.declared.call.ZeroCall.{ZeroCall}
+use Rattle.zero.specs.declared.call.ZeroCall.the-variants.{First, Ask}
 use Rattle.schedule.specs.Record.{threadAt, placeOf, withThread, afterZero}
 use Rattle.places.specs.Begin.{codeOf, unlimited, startedZero}
 use Rattle.schedule.specs.Form.{stepLimit}

@@ -13,21 +13,21 @@ use Rattle.waker.specs.declared.waker.Found.the-variants.{Nobody, At}
 use Rattle.waker.specs.declared.wakers.Side.{Side}
 use Rattle.waker.specs.declared.wakers.Side.the-variants.{Sender, Receiver}
 use Rattle.waker.specs.declared.context.Context.{Context}
-use Rattle.channel.specs.ZeroOutcome.{goes, ends, writes}
-use Rattle.channel.specs.ZeroSteps.{sideOf, aloneStep, firstStep, waitStep, readyWaitStep, askStep}
-use Rattle.channel.specs.Zero.{packet, packetAt, outcomeOf, withWakers, applied}
+use Rattle.zero.specs.ZeroOutcome.{goes, ends, writes}
+use Rattle.zero.specs.ZeroSteps.{sideOf, aloneStep, firstStep, waitStep, readyWaitStep, askStep}
+use Rattle.zero.specs.Zero.{packet, packetAt, outcomeOf, withWakers, applied}
 use Rattle.channel.specs.declared.answer.Tick.{Tick}
 use Rattle.channel.specs.declared.answer.Answer.{Answer}
-use Rattle.channel.specs.declared.zero.Zero.{Zero as Memory}
-use Rattle.channel.specs.declared.zero.call.Offer.{Offer}
-use Rattle.channel.specs.declared.zero.call.Limit.{Limit}
-use Rattle.channel.specs.declared.zero.call.Limit.the-variants.{Try, Until}
-use Rattle.channel.specs.declared.zero.call.Question.{Question}
-use Rattle.channel.specs.declared.zero.call.Question.the-variants as ask
-use Rattle.channel.specs.declared.zero.call.ZeroCall.{ZeroCall}
-use Rattle.channel.specs.declared.zero.call.ZeroCall.the-variants.{First, Put, PutReady, Take, TakeReady, Wait, ReadyWait, Leave, Ask}
-use Rattle.channel.specs.declared.zero.outcome.ZeroEffect.the-variants as effect
-use Rattle.channel.specs.declared.zero.outcome.ZeroNext.the-variants.{Ends}
+use Rattle.zero.specs.declared.Zero.{Zero as Memory}
+use Rattle.zero.specs.declared.call.Offer.{Offer}
+use Rattle.zero.specs.declared.call.Limit.{Limit}
+use Rattle.zero.specs.declared.call.Limit.the-variants.{Try, Until}
+use Rattle.zero.specs.declared.call.Question.{Question}
+use Rattle.zero.specs.declared.call.Question.the-variants as ask
+use Rattle.zero.specs.declared.call.ZeroCall.{ZeroCall}
+use Rattle.zero.specs.declared.call.ZeroCall.the-variants.{First, Put, PutReady, Take, TakeReady, Wait, ReadyWait, Leave, Ask}
+use Rattle.zero.specs.declared.outcome.ZeroEffect.the-variants as effect
+use Rattle.zero.specs.declared.outcome.ZeroNext.the-variants.{Ends}
 use Rattle.places.specs.declared.place.Place.the-variants.{Zero, Done}
 use Rattle.schedule.specs.declared.record.ThreadRecord.{ThreadRecord}
 use Rattle.grown.proofs.Orderly.{viewOn}

@@ -9,8 +9,8 @@ use Rattle.waker.specs.Context.{thread}
 use Rattle.waker.specs.Wakers.{wordOf}
 use Rattle.waker.specs.declared.context.Thread.{Thread}
 use Rattle.waker.specs.declared.wakers.Side.{Side}
-use Rattle.channel.specs.Zero.{packetAt}
-use Rattle.channel.specs.declared.zero.Zero.{Zero as Memory}
+use Rattle.zero.specs.Zero.{packetAt}
+use Rattle.zero.specs.declared.Zero.{Zero as Memory}
 use Rattle.channel.specs.declared.answer.Tick.{Tick}
 use Rattle.channel.specs.declared.answer.Answer.{Answer}
 use Rattle.schedule.specs.Record.{placeOf, withThread}

@@ -13,16 +13,16 @@ use Rattle.waker.specs.declared.context.Context.{Context}
 use Rattle.waker.specs.declared.context.Selected.{Selected}
 use Rattle.waker.specs.declared.wakers.Side.{Side}
 use Rattle.waker.proofs.WakerLaws.{entries-queueOf}
-use Rattle.channel.specs.Zero.{packetAt, withPacket, applied}
-use Rattle.channel.specs.ZeroSteps.{sideOf}
-use Rattle.channel.specs.declared.zero.Packet.{Packet}
-use Rattle.channel.specs.declared.zero.Zero.{Zero as Memory}
-use Rattle.channel.specs.declared.zero.call.Question.the-variants.{Disconnect}
-use Rattle.channel.specs.declared.zero.call.ZeroCall.{ZeroCall}
-use Rattle.channel.specs.declared.zero.call.ZeroCall.the-variants.{Ask}
-use Rattle.channel.specs.declared.zero.outcome.ZeroEffect.{ZeroEffect}
-use Rattle.channel.specs.declared.zero.outcome.ZeroEffect.the-variants as effect
-use Rattle.channel.specs.declared.zero.outcome.ZeroOutcome.{ZeroOutcome}
+use Rattle.zero.specs.Zero.{packetAt, withPacket, applied}
+use Rattle.zero.specs.ZeroSteps.{sideOf}
+use Rattle.zero.specs.declared.Packet.{Packet}
+use Rattle.zero.specs.declared.Zero.{Zero as Memory}
+use Rattle.zero.specs.declared.call.Question.the-variants.{Disconnect}
+use Rattle.zero.specs.declared.call.ZeroCall.{ZeroCall}
+use Rattle.zero.specs.declared.call.ZeroCall.the-variants.{Ask}
+use Rattle.zero.specs.declared.outcome.ZeroEffect.{ZeroEffect}
+use Rattle.zero.specs.declared.outcome.ZeroEffect.the-variants as effect
+use Rattle.zero.specs.declared.outcome.ZeroOutcome.{ZeroOutcome}
 use Rattle.schedule.specs.Record.{placeOf, placeAfterZero}
 use Rattle.places.specs.FormWaits.{timesIn}
 use Rattle.schedule.specs.History.{steps, Moment, updated}

@@ -14,15 +14,15 @@ use Rattle.waker.specs.declared.context.Selected.{Selected}
 use Rattle.waker.specs.declared.context.Selected.the-variants as word
 use Rattle.waker.specs.declared.wakers.Side.{Side}
 use Rattle.waker.specs.declared.wakers.Side.the-variants.{Sender, Receiver}
-use Rattle.channel.specs.ZeroOutcome.{writes, goes}
-use Rattle.channel.specs.ZeroSteps.{waitStep, leaveStep, leftFor, readyWaitStep, metBy, backTo}
-use Rattle.channel.specs.Zero.{keptAtLeave}
+use Rattle.zero.specs.ZeroOutcome.{writes, goes}
+use Rattle.zero.specs.ZeroSteps.{waitStep, leaveStep, leftFor, readyWaitStep, metBy, backTo}
+use Rattle.zero.specs.Zero.{keptAtLeave}
 use Rattle.channel.specs.declared.answer.Tick.{Tick}
-use Rattle.channel.specs.declared.zero.Packet.{Packet}
-use Rattle.channel.specs.declared.zero.call.ZeroCall.the-variants.{Wait, ReadyWait, Leave}
-use Rattle.channel.specs.declared.zero.outcome.ZeroEffect.the-variants as effect
-use Rattle.channel.specs.declared.zero.outcome.ZeroNext.the-variants.{Goes, Ends}
-use Rattle.channel.specs.declared.zero.outcome.ZeroOutcome.{ZeroOutcome}
+use Rattle.zero.specs.declared.Packet.{Packet}
+use Rattle.zero.specs.declared.call.ZeroCall.the-variants.{Wait, ReadyWait, Leave}
+use Rattle.zero.specs.declared.outcome.ZeroEffect.the-variants as effect
+use Rattle.zero.specs.declared.outcome.ZeroNext.the-variants.{Goes, Ends}
+use Rattle.zero.specs.declared.outcome.ZeroOutcome.{ZeroOutcome}
 use Rattle.schedule.specs.Record.{placeOf}
 use Rattle.schedule.specs.History.{Moment}
 use Rattle.places.specs.declared.place.Place.the-variants.{Zero}

@@ -7,19 +7,19 @@ use Rattle.waker.specs.Wakers.{otherSide}
 use Rattle.waker.specs.declared.context.Thread.{Thread}
 use Rattle.waker.specs.declared.waker.Found.{Found}
 use Rattle.waker.specs.declared.waker.Found.the-variants.{Nobody, At}
-use Rattle.channel.specs.ZeroOutcome.{writes, ends}
-use Rattle.channel.specs.ZeroSteps.{sideOf, firstStep, askStep}
-use Rattle.channel.specs.Zero.{outcomeOf}
+use Rattle.zero.specs.ZeroOutcome.{writes, ends}
+use Rattle.zero.specs.ZeroSteps.{sideOf, firstStep, askStep}
+use Rattle.zero.specs.Zero.{outcomeOf}
 use Rattle.channel.specs.declared.answer.Answer.{Answer}
 use Rattle.channel.specs.declared.answer.Answer.the-variants.{Number, Yes, No}
-use Rattle.channel.specs.declared.zero.call.Offer.{Offer}
-use Rattle.channel.specs.declared.zero.call.Limit.{Limit}
-use Rattle.channel.specs.declared.zero.call.Question.{Question}
-use Rattle.channel.specs.declared.zero.call.Question.the-variants as ask
-use Rattle.channel.specs.declared.zero.call.ZeroCall.{ZeroCall}
-use Rattle.channel.specs.declared.zero.call.ZeroCall.the-variants.{First, Put, PutReady, Take, TakeReady, Wait, ReadyWait, Leave, Ask}
-use Rattle.channel.specs.declared.zero.outcome.ZeroEffect.the-variants as effect
-use Rattle.channel.specs.declared.zero.outcome.ZeroNext.the-variants.{Ends}
+use Rattle.zero.specs.declared.call.Offer.{Offer}
+use Rattle.zero.specs.declared.call.Limit.{Limit}
+use Rattle.zero.specs.declared.call.Question.{Question}
+use Rattle.zero.specs.declared.call.Question.the-variants as ask
+use Rattle.zero.specs.declared.call.ZeroCall.{ZeroCall}
+use Rattle.zero.specs.declared.call.ZeroCall.the-variants.{First, Put, PutReady, Take, TakeReady, Wait, ReadyWait, Leave, Ask}
+use Rattle.zero.specs.declared.outcome.ZeroEffect.the-variants as effect
+use Rattle.zero.specs.declared.outcome.ZeroNext.the-variants.{Ends}
 use Rattle.schedule.specs.Record.{placeOf}
 use Rattle.schedule.specs.History.{Moment}
 use Rattle.places.specs.declared.place.Place.the-variants.{Zero}

@@ -9,11 +9,11 @@ use Rattle.waker.specs.declared.context.Selected.{Selected}
 use Rattle.waker.specs.declared.context.Selected.the-variants as word
 use Rattle.waker.specs.declared.wakers.Side.{Side}
 use Rattle.waker.specs.declared.wakers.Side.the-variants.{Sender, Receiver}
-use Rattle.channel.specs.ZeroSteps.{sideOf, messageOf}
-use Rattle.channel.specs.declared.zero.call.Limit.{Limit}
-use Rattle.channel.specs.declared.zero.call.Limit.the-variants.{Try, Until}
-use Rattle.channel.specs.declared.zero.call.ZeroCall.{ZeroCall}
-use Rattle.channel.specs.declared.zero.call.ZeroCall.the-variants.{First, Put, PutReady, Take, TakeReady, Wait, ReadyWait, Leave, Ask}
+use Rattle.zero.specs.ZeroSteps.{sideOf, messageOf}
+use Rattle.zero.specs.declared.call.Limit.{Limit}
+use Rattle.zero.specs.declared.call.Limit.the-variants.{Try, Until}
+use Rattle.zero.specs.declared.call.ZeroCall.{ZeroCall}
+use Rattle.zero.specs.declared.call.ZeroCall.the-variants.{First, Put, PutReady, Take, TakeReady, Wait, ReadyWait, Leave, Ask}
 use Rattle.schedule.specs.Record.{placeOf}
 use Rattle.schedule.specs.History.{Moment}
 use Rattle.places.specs.declared.place.Place.{Place}

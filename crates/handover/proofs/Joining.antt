@@ -14,20 +14,20 @@ use Rattle.waker.specs.declared.waker.Found.the-variants.{Nobody}
 use Rattle.waker.specs.declared.wakers.Side.{Side}
 use Rattle.waker.specs.declared.wakers.Wakers.{Wakers}
 use Rattle.waker.proofs.WakerLaws.{entries-queueOf}
-use Rattle.channel.specs.ZeroOutcome.{writes}
-use Rattle.channel.specs.ZeroSteps.{sideOf, messageOf, nobodyFor, aloneStep, firstStep}
-use Rattle.channel.specs.Zero.{packet}
+use Rattle.zero.specs.ZeroOutcome.{writes}
+use Rattle.zero.specs.ZeroSteps.{sideOf, messageOf, nobodyFor, aloneStep, firstStep}
+use Rattle.zero.specs.Zero.{packet}
 use Rattle.channel.specs.declared.answer.Tick.{Tick}
 use Rattle.channel.specs.declared.answer.Answer.the-variants.{Disconnected}
-use Rattle.channel.specs.declared.zero.Packet.{Packet}
-use Rattle.channel.specs.declared.zero.call.Offer.{Offer}
-use Rattle.channel.specs.declared.zero.call.Offer.the-variants.{Send, Receive}
-use Rattle.channel.specs.declared.zero.call.Limit.{Limit}
-use Rattle.channel.specs.declared.zero.call.Limit.the-variants.{Try, Until}
-use Rattle.channel.specs.declared.zero.call.ZeroCall.the-variants.{First, Wait}
-use Rattle.channel.specs.declared.zero.outcome.ZeroEffect.the-variants as effect
-use Rattle.channel.specs.declared.zero.outcome.ZeroNext.the-variants.{Goes, Ends}
-use Rattle.channel.specs.declared.zero.outcome.ZeroOutcome.{ZeroOutcome}
+use Rattle.zero.specs.declared.Packet.{Packet}
+use Rattle.zero.specs.declared.call.Offer.{Offer}
+use Rattle.zero.specs.declared.call.Offer.the-variants.{Send, Receive}
+use Rattle.zero.specs.declared.call.Limit.{Limit}
+use Rattle.zero.specs.declared.call.Limit.the-variants.{Try, Until}
+use Rattle.zero.specs.declared.call.ZeroCall.the-variants.{First, Wait}
+use Rattle.zero.specs.declared.outcome.ZeroEffect.the-variants as effect
+use Rattle.zero.specs.declared.outcome.ZeroNext.the-variants.{Goes, Ends}
+use Rattle.zero.specs.declared.outcome.ZeroOutcome.{ZeroOutcome}
 use Rattle.schedule.specs.Record.{placeOf}
 use Rattle.schedule.specs.History.{Moment}
 use Rattle.places.specs.FormWaits.{sameSide, timesIn}

@@ -10,13 +10,13 @@ use Rattle.waker.specs.Context.{thread}
 use Rattle.waker.specs.declared.context.Thread.{Thread}
 use Rattle.waker.specs.declared.context.Selected.the-variants as word
 use Rattle.waker.specs.declared.wakers.Side.{Side}
-use Rattle.channel.specs.ZeroOutcome.{writes}
+use Rattle.zero.specs.ZeroOutcome.{writes}
 use Rattle.channel.specs.declared.answer.Tick.{Tick}
-use Rattle.channel.specs.declared.zero.call.ZeroCall.{ZeroCall}
-use Rattle.channel.specs.declared.zero.call.ZeroCall.the-variants.{Wait}
-use Rattle.channel.specs.declared.zero.outcome.ZeroNext.{ZeroNext}
-use Rattle.channel.specs.declared.zero.outcome.ZeroEffect.the-variants.{Nothing}
-use Rattle.channel.specs.declared.zero.outcome.ZeroOutcome.{ZeroOutcome}
+use Rattle.zero.specs.declared.call.ZeroCall.{ZeroCall}
+use Rattle.zero.specs.declared.call.ZeroCall.the-variants.{Wait}
+use Rattle.zero.specs.declared.outcome.ZeroNext.{ZeroNext}
+use Rattle.zero.specs.declared.outcome.ZeroEffect.the-variants.{Nothing}
+use Rattle.zero.specs.declared.outcome.ZeroOutcome.{ZeroOutcome}
 use Rattle.schedule.specs.Record.{placeOf, placeAfterZero}
 use Rattle.schedule.specs.History.{steps, Moment}
 use Rattle.places.specs.FormWaits.{awaits, partnerOf}

@@ -9,17 +9,17 @@ use Rattle.waker.specs.declared.context.Selected.{Selected}
 use Rattle.waker.specs.declared.context.Selected.the-variants as word
 use Rattle.waker.specs.declared.wakers.Side.{Side}
 use Rattle.waker.specs.declared.wakers.Side.the-variants.{Sender, Receiver}
-use Rattle.channel.specs.ZeroOutcome.{writes, goes}
-use Rattle.channel.specs.ZeroSteps.{metBy, waitStep}
-use Rattle.channel.specs.Zero.{packetAt, withPacket, outcomeOf}
+use Rattle.zero.specs.ZeroOutcome.{writes, goes}
+use Rattle.zero.specs.ZeroSteps.{metBy, waitStep}
+use Rattle.zero.specs.Zero.{packetAt, withPacket, outcomeOf}
 use Rattle.channel.specs.declared.answer.Tick.{Tick}
 use Rattle.channel.specs.declared.answer.Answer.the-variants.{Received}
-use Rattle.channel.specs.declared.zero.Packet.{Packet}
-use Rattle.channel.specs.declared.zero.Zero.{Zero as Memory}
-use Rattle.channel.specs.declared.zero.call.ZeroCall.{ZeroCall}
-use Rattle.channel.specs.declared.zero.call.ZeroCall.the-variants.{First, Put, PutReady, Take, TakeReady, Wait, ReadyWait, Leave, Ask}
-use Rattle.channel.specs.declared.zero.outcome.ZeroEffect.the-variants as effect
-use Rattle.channel.specs.declared.zero.outcome.ZeroNext.the-variants.{Ends as Ended}
+use Rattle.zero.specs.declared.Packet.{Packet}
+use Rattle.zero.specs.declared.Zero.{Zero as Memory}
+use Rattle.zero.specs.declared.call.ZeroCall.{ZeroCall}
+use Rattle.zero.specs.declared.call.ZeroCall.the-variants.{First, Put, PutReady, Take, TakeReady, Wait, ReadyWait, Leave, Ask}
+use Rattle.zero.specs.declared.outcome.ZeroEffect.the-variants as effect
+use Rattle.zero.specs.declared.outcome.ZeroNext.the-variants.{Ends as Ended}
 use Rattle.schedule.specs.Record.{placeOf, placeAfterZero}
 use Rattle.places.specs.FormWaits.{isPicked, awaits, zeroPartner, partnerOf}
 use Rattle.schedule.specs.History.{steps, Moment, next, updated}

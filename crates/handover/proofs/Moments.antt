@@ -7,9 +7,9 @@ use native.Mathlib.Omega.{arith}
 use lib.Seq.{getD-set-other}
 use Rattle.waker.specs.Choice.{if_then_else_}
 use Rattle.waker.specs.declared.context.Thread.{Thread}
-use Rattle.channel.specs.Zero.{outcomeOf, applied}
-use Rattle.channel.specs.declared.zero.call.ZeroCall.{ZeroCall}
-use Rattle.channel.specs.declared.zero.outcome.ZeroOutcome.{ZeroOutcome}
+use Rattle.zero.specs.Zero.{outcomeOf, applied}
+use Rattle.zero.specs.declared.call.ZeroCall.{ZeroCall}
+use Rattle.zero.specs.declared.outcome.ZeroOutcome.{ZeroOutcome}
 use Rattle.schedule.specs.Record.{threadAt, placeOf, withThread, placeAfterZero, afterZero}
 use Rattle.schedule.specs.History.{steps, actOn, Moment, remembered, next}
 use Rattle.places.specs.declared.place.Place.{Place}

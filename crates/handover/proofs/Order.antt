@@ -12,21 +12,21 @@ use Rattle.waker.specs.declared.context.Thread.{Thread}
 use Rattle.waker.specs.declared.waker.Found.{Found}
 use Rattle.waker.specs.declared.waker.Found.the-variants.{Nobody, At}
 use Rattle.waker.specs.declared.wakers.Side.{Side}
-use Rattle.channel.specs.ZeroOutcome.{writes, ends}
-use Rattle.channel.specs.ZeroSteps.{sideOf, messageOf, partnerFor, aloneStep, firstStep}
-use Rattle.channel.specs.Zero.{foundBy}
+use Rattle.zero.specs.ZeroOutcome.{writes, ends}
+use Rattle.zero.specs.ZeroSteps.{sideOf, messageOf, partnerFor, aloneStep, firstStep}
+use Rattle.zero.specs.Zero.{foundBy}
 use Rattle.channel.specs.declared.answer.Tick.{Tick}
 use Rattle.channel.specs.declared.answer.Answer.{Answer}
 use Rattle.channel.specs.declared.answer.Answer.the-variants.{Disconnected}
-use Rattle.channel.specs.declared.zero.Zero.{Zero as Memory}
-use Rattle.channel.specs.declared.zero.call.Offer.{Offer}
-use Rattle.channel.specs.declared.zero.call.Offer.the-variants.{Send, Receive}
-use Rattle.channel.specs.declared.zero.call.Limit.{Limit}
-use Rattle.channel.specs.declared.zero.call.Limit.the-variants.{Try, Until}
-use Rattle.channel.specs.declared.zero.call.ZeroCall.the-variants.{First, Wait}
-use Rattle.channel.specs.declared.zero.outcome.ZeroEffect.the-variants as effect
-use Rattle.channel.specs.declared.zero.outcome.ZeroNext.the-variants.{Goes}
-use Rattle.channel.specs.declared.zero.outcome.ZeroOutcome.{ZeroOutcome}
+use Rattle.zero.specs.declared.Zero.{Zero as Memory}
+use Rattle.zero.specs.declared.call.Offer.{Offer}
+use Rattle.zero.specs.declared.call.Offer.the-variants.{Send, Receive}
+use Rattle.zero.specs.declared.call.Limit.{Limit}
+use Rattle.zero.specs.declared.call.Limit.the-variants.{Try, Until}
+use Rattle.zero.specs.declared.call.ZeroCall.the-variants.{First, Wait}
+use Rattle.zero.specs.declared.outcome.ZeroEffect.the-variants as effect
+use Rattle.zero.specs.declared.outcome.ZeroNext.the-variants.{Goes}
+use Rattle.zero.specs.declared.outcome.ZeroOutcome.{ZeroOutcome}
 use Rattle.schedule.specs.Record.{placeOf, placeAfterZero}
 use Rattle.places.specs.FormWaits.{timesIn}
 use Rattle.schedule.specs.History.{steps, Moment, next}

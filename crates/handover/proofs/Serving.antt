@@ -8,17 +8,17 @@ use native.Mathlib.Omega.{arith}
 use Rattle.waker.specs.declared.context.Thread.{Thread}
 use Rattle.waker.specs.declared.wakers.Side.{Side}
 use Rattle.waker.specs.declared.wakers.Side.the-variants.{Sender, Receiver}
-use Rattle.channel.specs.ZeroOutcome.{writes}
-use Rattle.channel.specs.ZeroSteps.{putStep, putReadyStep, takeStep, takeReadyStep}
-use Rattle.channel.specs.Zero.{packet, packetAt, withPacket, withMessage}
+use Rattle.zero.specs.ZeroOutcome.{writes}
+use Rattle.zero.specs.ZeroSteps.{putStep, putReadyStep, takeStep, takeReadyStep}
+use Rattle.zero.specs.Zero.{packet, packetAt, withPacket, withMessage}
 use Rattle.channel.specs.declared.answer.Answer.{Answer}
 use Rattle.channel.specs.declared.answer.Answer.the-variants.{Sent, Received}
-use Rattle.channel.specs.declared.zero.Packet.{Packet}
-use Rattle.channel.specs.declared.zero.call.ZeroCall.{ZeroCall}
-use Rattle.channel.specs.declared.zero.call.ZeroCall.the-variants.{Put, PutReady, Take, TakeReady}
-use Rattle.channel.specs.declared.zero.outcome.ZeroEffect.the-variants as effect
-use Rattle.channel.specs.declared.zero.outcome.ZeroNext.the-variants.{Goes, Ends}
-use Rattle.channel.specs.declared.zero.outcome.ZeroOutcome.{ZeroOutcome}
+use Rattle.zero.specs.declared.Packet.{Packet}
+use Rattle.zero.specs.declared.call.ZeroCall.{ZeroCall}
+use Rattle.zero.specs.declared.call.ZeroCall.the-variants.{Put, PutReady, Take, TakeReady}
+use Rattle.zero.specs.declared.outcome.ZeroEffect.the-variants as effect
+use Rattle.zero.specs.declared.outcome.ZeroNext.the-variants.{Goes, Ends}
+use Rattle.zero.specs.declared.outcome.ZeroOutcome.{ZeroOutcome}
 use Rattle.schedule.specs.Record.{placeOf, placeAfterZero}
 use Rattle.schedule.specs.History.{Moment}
 use Rattle.places.specs.FormWaits.{partnerOf}

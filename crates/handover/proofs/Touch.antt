@@ -9,11 +9,11 @@ use Rattle.waker.specs.declared.context.Thread.{Thread}
 use Rattle.waker.specs.declared.context.Selected.{Selected}
 use Rattle.waker.specs.declared.context.Selected.the-variants as word
 use Rattle.waker.specs.declared.wakers.Side.{Side}
-use Rattle.channel.specs.ZeroSteps.{sideOf, partnerFor}
-use Rattle.channel.specs.declared.zero.call.Offer.{Offer}
-use Rattle.channel.specs.declared.zero.call.Limit.{Limit}
-use Rattle.channel.specs.declared.zero.call.Question.the-variants.{Disconnect}
-use Rattle.channel.specs.declared.zero.call.ZeroCall.the-variants.{First, Ask}
+use Rattle.zero.specs.ZeroSteps.{sideOf, partnerFor}
+use Rattle.zero.specs.declared.call.Offer.{Offer}
+use Rattle.zero.specs.declared.call.Limit.{Limit}
+use Rattle.zero.specs.declared.call.Question.the-variants.{Disconnect}
+use Rattle.zero.specs.declared.call.ZeroCall.the-variants.{First, Ask}
 use Rattle.schedule.specs.Record.{placeOf}
 use Rattle.places.specs.FormWaits.{awaits, partnerOf, timesIn}
 use Rattle.schedule.specs.History.{Act, steps, Moment}

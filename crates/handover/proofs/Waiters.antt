@@ -7,11 +7,11 @@ use native.Mathlib.Omega.{arith}
 use Rattle.waker.specs.declared.context.Thread.{Thread}
 use Rattle.waker.specs.declared.context.Selected.the-variants as word
 use Rattle.waker.specs.declared.wakers.Side.{Side}
-use Rattle.channel.specs.Zero.{packetAt, withPacket}
+use Rattle.zero.specs.Zero.{packetAt, withPacket}
 use Rattle.channel.specs.declared.answer.Tick.{Tick}
-use Rattle.channel.specs.declared.zero.Packet.{Packet}
-use Rattle.channel.specs.declared.zero.call.Limit.{Limit}
-use Rattle.channel.specs.declared.zero.call.Limit.the-variants.{Try, Until}
+use Rattle.zero.specs.declared.Packet.{Packet}
+use Rattle.zero.specs.declared.call.Limit.{Limit}
+use Rattle.zero.specs.declared.call.Limit.the-variants.{Try, Until}
 use Rattle.schedule.specs.Record.{placeOf}
 use Rattle.schedule.specs.History.{Moment}
 use Rattle.places.specs.FormWaits.{queuedAt, awaits, partnerOf, timesIn}

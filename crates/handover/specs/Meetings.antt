@@ -9,15 +9,15 @@ use Rattle.waker.specs.Wakers.{otherSide, listed, wordOf}
 use Rattle.waker.specs.declared.context.Selected.{Selected}
 use Rattle.waker.specs.declared.wakers.Side.{Side}
 use Rattle.waker.specs.declared.wakers.Side.the-variants.{Sender, Receiver}
-use Rattle.channel.specs.Zero.{outcomeOf, packetAt}
-use Rattle.channel.specs.ZeroSteps.{sideOf}
-use Rattle.channel.specs.declared.zero.Packet.{Packet}
-use Rattle.channel.specs.declared.zero.call.Question.{Question}
-use Rattle.channel.specs.declared.zero.call.Question.the-variants as ask
-use Rattle.channel.specs.declared.zero.call.ZeroCall.{ZeroCall}
-use Rattle.channel.specs.declared.zero.call.ZeroCall.the-variants.{First, Put, PutReady, Take, TakeReady, Wait, ReadyWait, Leave, Ask}
-use Rattle.channel.specs.declared.zero.outcome.ZeroEffect.{ZeroEffect}
-use Rattle.channel.specs.declared.zero.outcome.ZeroEffect.the-variants as effect
+use Rattle.zero.specs.Zero.{outcomeOf, packetAt}
+use Rattle.zero.specs.ZeroSteps.{sideOf}
+use Rattle.zero.specs.declared.Packet.{Packet}
+use Rattle.zero.specs.declared.call.Question.{Question}
+use Rattle.zero.specs.declared.call.Question.the-variants as ask
+use Rattle.zero.specs.declared.call.ZeroCall.{ZeroCall}
+use Rattle.zero.specs.declared.call.ZeroCall.the-variants.{First, Put, PutReady, Take, TakeReady, Wait, ReadyWait, Leave, Ask}
+use Rattle.zero.specs.declared.outcome.ZeroEffect.{ZeroEffect}
+use Rattle.zero.specs.declared.outcome.ZeroEffect.the-variants as effect
 use Rattle.schedule.specs.Record.{placeOf}
 use Rattle.places.specs.Begin.{codeOf, carriedBy}
 use Rattle.places.specs.FormWaits.{sameSide}

@@ -13,17 +13,17 @@ use Rattle.waker.specs.declared.context.Thread.{Thread}
 use Rattle.waker.specs.declared.context.Selected.the-variants as word
 use Rattle.waker.specs.declared.wakers.Side.{Side}
 use Rattle.waker.specs.declared.wakers.Side.the-variants.{Sender, Receiver}
-use Rattle.channel.specs.Zero.{packetFor}
-use Rattle.channel.specs.ZeroSteps.{sideOf, partnerFor, metBy}
+use Rattle.zero.specs.Zero.{packetFor}
+use Rattle.zero.specs.ZeroSteps.{sideOf, partnerFor, metBy}
 use Rattle.channel.specs.declared.answer.Tick.{Tick}
 use Rattle.channel.specs.declared.answer.Answer.{Answer}
 use Rattle.channel.specs.declared.answer.Answer.the-variants as answer
-use Rattle.channel.specs.declared.zero.call.Offer.{Offer}
-use Rattle.channel.specs.declared.zero.call.Limit.{Limit}
-use Rattle.channel.specs.declared.zero.call.Question.{Question}
-use Rattle.channel.specs.declared.zero.call.Question.the-variants.{Len, Disconnect}
-use Rattle.channel.specs.declared.zero.call.ZeroCall.{ZeroCall}
-use Rattle.channel.specs.declared.zero.call.ZeroCall.the-variants.{First, Wait, ReadyWait, Leave, Ask}
+use Rattle.zero.specs.declared.call.Offer.{Offer}
+use Rattle.zero.specs.declared.call.Limit.{Limit}
+use Rattle.zero.specs.declared.call.Question.{Question}
+use Rattle.zero.specs.declared.call.Question.the-variants.{Len, Disconnect}
+use Rattle.zero.specs.declared.call.ZeroCall.{ZeroCall}
+use Rattle.zero.specs.declared.call.ZeroCall.the-variants.{First, Wait, ReadyWait, Leave, Ask}
 use Rattle.schedule.specs.Record.{placeOf, acceptedAs}
 use Rattle.schedule.specs.Making.{madeZero}
 use Rattle.places.specs.FormWaits.{awaits, zeroPartner, partnerOf, timesIn}

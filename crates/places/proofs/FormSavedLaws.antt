@@ -6,7 +6,7 @@ use native.Mathlib.Omega.{arith}
 use lib.Dec.{eqb, leb}
 use borrow.Author.Tests.{leb-true, eqb-true, eqb-false}
 use Rattle.channel.specs.Position.{slots, markOf, shapeOf}
-use Rattle.channel.specs.ArrayBounds.{Sized}
+use Rattle.channel.specs.PositionBounds.{Sized}
 use Rattle.channel.specs.declared.position.Shape.{Shape}
 use Rattle.channel.proofs.PositionLaws.{sized}
 use Rattle.places.specs.Tests.{not}

@@ -17,7 +17,7 @@ use Rattle.waker.specs.declared.context.Selected.{Selected}
 use Rattle.waker.specs.declared.waker.Waker.{Waker}
 use Rattle.waker.specs.declared.wakers.Side.{Side}
 use Rattle.waker.specs.declared.wakers.Side.the-variants.{Sender, Receiver}
-use Rattle.channel.specs.declared.zero.Packet.{Packet}
+use Rattle.zero.specs.declared.Packet.{Packet}
 use Rattle.places.specs.Tests.{allBelow}
 use Rattle.places.specs.FormWaits.{leaveInForm, timesIn, entryInForm, queueInForm}
 use Rattle.places.proofs.TestLaws.{and-left}

@@ -4,21 +4,21 @@ use mathlib.Core.Bool.{Bool, true, false}
 use lib.Dec.{eqb, ltb, leb}
 use Rattle.waker.specs.Choice.{if_then_else_}
 use Rattle.channel.specs.Position.{slots, markOf, indexOf, isMarked}
-use Rattle.channel.specs.ArrayBounds.{Sized}
+use Rattle.channel.specs.PositionBounds.{Sized}
 use Rattle.channel.specs.declared.position.Position.{Position}
 use Rattle.channel.specs.declared.position.Shape.{Shape}
-use Rattle.channel.specs.declared.array.call.SendPlace.{SendPlace}
-use Rattle.channel.specs.declared.array.call.SendPlace.the-variants as send
-use Rattle.channel.specs.declared.array.call.ReceivePlace.{ReceivePlace}
-use Rattle.channel.specs.declared.array.call.ReceivePlace.the-variants as receive
-use Rattle.channel.specs.declared.array.call.LenPlace.{LenPlace}
-use Rattle.channel.specs.declared.array.call.LenPlace.the-variants as len
-use Rattle.channel.specs.declared.array.call.IsEmptyPlace.{IsEmptyPlace}
-use Rattle.channel.specs.declared.array.call.IsEmptyPlace.the-variants as is-empty
-use Rattle.channel.specs.declared.array.call.IsFullPlace.{IsFullPlace}
-use Rattle.channel.specs.declared.array.call.IsFullPlace.the-variants as is-full
-use Rattle.channel.specs.declared.array.call.ArrayCall.{ArrayCall}
-use Rattle.channel.specs.declared.array.call.ArrayCall.the-variants.{Send, Receive, Len, IsEmpty, IsFull, IsDisconnected, Disconnect}
+use Rattle.array.specs.declared.call.SendPlace.{SendPlace}
+use Rattle.array.specs.declared.call.SendPlace.the-variants as send
+use Rattle.array.specs.declared.call.ReceivePlace.{ReceivePlace}
+use Rattle.array.specs.declared.call.ReceivePlace.the-variants as receive
+use Rattle.array.specs.declared.call.LenPlace.{LenPlace}
+use Rattle.array.specs.declared.call.LenPlace.the-variants as len
+use Rattle.array.specs.declared.call.IsEmptyPlace.{IsEmptyPlace}
+use Rattle.array.specs.declared.call.IsEmptyPlace.the-variants as is-empty
+use Rattle.array.specs.declared.call.IsFullPlace.{IsFullPlace}
+use Rattle.array.specs.declared.call.IsFullPlace.the-variants as is-full
+use Rattle.array.specs.declared.call.ArrayCall.{ArrayCall}
+use Rattle.array.specs.declared.call.ArrayCall.the-variants.{Send, Receive, Len, IsEmpty, IsFull, IsDisconnected, Disconnect}
 use Rattle.places.specs.Tests.{_and_, not}
 
 -- Array capacity 1 to 64; mark and lap fit the capacity.

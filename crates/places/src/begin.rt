@@ -3,17 +3,17 @@ ghost use mathlib.Core.Path.{_≡_};
 ghost use Rattle.places.specs.Begin.{codeOf, started, startedArray, firstSection, startedZero, unlimited};
 use crate::place::Flavour;
 use crate::place::Place;
+use array::call::ArrayCall;
+use array::call::IsEmptyPlace;
+use array::call::IsFullPlace;
+use array::call::LenPlace;
+use array::call::ReceivePlace;
+use array::call::SendPlace;
 use channel::answer::Tick;
-use channel::array::call::ArrayCall;
-use channel::array::call::IsEmptyPlace;
-use channel::array::call::IsFullPlace;
-use channel::array::call::LenPlace;
-use channel::array::call::ReceivePlace;
-use channel::array::call::SendPlace;
-use channel::zero::call::Limit;
-use channel::zero::call::Offer;
-use channel::zero::call::Question;
-use channel::zero::call::ZeroCall;
+use zero::call::Limit;
+use zero::call::Offer;
+use zero::call::Question;
+use zero::call::ZeroCall;
 
 /// The deadline that means none.
 pub const NO_DEADLINE: u32 = 0xffff_ffff;

@@ -1,7 +1,7 @@
 //! Where a thread stands.
+use array::call::ArrayCall;
 use channel::answer::Answer;
-use channel::array::call::ArrayCall;
-use channel::zero::call::ZeroCall;
+use zero::call::ZeroCall;
 
 /// Which channel a record holds.
 pub enum Flavour {

@@ -1,13 +1,13 @@
 //! The form of position words, of an array's shape and slots, and of what its calls have saved.
 ghost use mathlib.Core.Path.{_≡_};
-ghost use Rattle.channel.specs.ArrayBounds.{Sized};
+ghost use Rattle.channel.specs.PositionBounds.{Sized};
 ghost use Rattle.places.specs.FormSaved.{shapeInForm, tailInForm, wordInForm, slotInForm, sendInForm, receiveInForm, lenInForm, isEmptyInForm, isFullInForm, savedInForm, Measured};
-use channel::array::call::ArrayCall;
-use channel::array::call::IsEmptyPlace;
-use channel::array::call::IsFullPlace;
-use channel::array::call::LenPlace;
-use channel::array::call::ReceivePlace;
-use channel::array::call::SendPlace;
+use array::call::ArrayCall;
+use array::call::IsEmptyPlace;
+use array::call::IsFullPlace;
+use array::call::LenPlace;
+use array::call::ReceivePlace;
+use array::call::SendPlace;
 use channel::position::Position;
 use channel::position::SLOTS;
 use channel::position::Shape;

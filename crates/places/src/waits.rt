@@ -5,13 +5,13 @@ ghost use Rattle.waker.specs.Context.{threads};
 ghost use Rattle.waker.specs.Waker.{entries};
 ghost use Rattle.places.specs.FormWaits.{isPicked, sameSide, unused, mayLeave, leaveInForm, zeroWaitInForm, waitInForm, queuedAt, standsOn, awaits, zeroPartner, partnerOf, timesIn, entryInForm, queueInForm};
 use crate::place::Place;
-use channel::zero::Packet;
-use channel::zero::call::ZeroCall;
 use waker::context::Selected;
 use waker::context::THREADS;
 use waker::context::Thread;
 use waker::waker::Waker;
 use waker::wakers::Side;
+use zero::Packet;
+use zero::call::ZeroCall;
 
 /// The partner that a call names, and the side of that partner's call.
 pub enum Partner {

@@ -10,7 +10,7 @@ use Rattle.waker.specs.declared.context.Selected.{Selected}
 use Rattle.waker.specs.declared.context.Selected.the-variants.{Waiting, Picked, Aborted, Disconnected}
 use Rattle.waker.specs.declared.waker.Waker.{Waker}
 use Rattle.channel.specs.Position.{at}
-use Rattle.channel.specs.Zero.{packetAt}
+use Rattle.zero.specs.Zero.{packetAt}
 use Rattle.schedule.specs.Record.{placeOf}
 use Rattle.places.specs.declared.place.Flavour.{Flavour}
 use Rattle.places.specs.declared.place.Flavour.the-variants as flavour

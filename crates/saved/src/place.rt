@@ -1,18 +1,18 @@
 //! Where a thread stands, as three numbers: a code, and what its call has saved.
 ghost use mathlib.Core.Path.{_≡_};
 ghost use Rattle.saved.specs.Place.{numbers, sendNumbers, receiveNumbers, lenNumbers, isEmptyNumbers, isFullNumbers, arrayNumbers, firstNumbers, askNumbers, onSide, zeroNumbers, placeNumbers};
-use channel::array::call::ArrayCall;
-use channel::array::call::IsEmptyPlace;
-use channel::array::call::IsFullPlace;
-use channel::array::call::LenPlace;
-use channel::array::call::ReceivePlace;
-use channel::array::call::SendPlace;
-use channel::zero::call::Limit;
-use channel::zero::call::Offer;
-use channel::zero::call::Question;
-use channel::zero::call::ZeroCall;
+use array::call::ArrayCall;
+use array::call::IsEmptyPlace;
+use array::call::IsFullPlace;
+use array::call::LenPlace;
+use array::call::ReceivePlace;
+use array::call::SendPlace;
 use places::place::Place;
 use waker::wakers::Side;
+use zero::call::Limit;
+use zero::call::Offer;
+use zero::call::Question;
+use zero::call::ZeroCall;
 
 /// A place's code, and up to two saved numbers.
 pub struct Numbers {

@@ -8,9 +8,9 @@ use borrow.Author.Tests.{eqb-true}
 use Rattle.waker.specs.Context.{thread}
 use Rattle.waker.specs.Wakers.{wordOf}
 use Rattle.channel.specs.Position.{at}
-use Rattle.channel.specs.Zero.{packetAt}
-use Rattle.channel.specs.ArrayBounds.{Sized}
-use Rattle.channel.specs.declared.array.Array.{Array}
+use Rattle.zero.specs.Zero.{packetAt}
+use Rattle.channel.specs.PositionBounds.{Sized}
+use Rattle.array.specs.declared.Array.{Array}
 use Rattle.channel.specs.declared.position.Shape.{Shape}
 use Rattle.places.specs.Tests.{not}
 use Rattle.places.specs.FormSaved.{shapeInForm, slotInForm, Measured}

@@ -18,21 +18,22 @@ use Rattle.waker.specs.declared.waker.Waker.{Waker}
 use Rattle.waker.specs.declared.wakers.Side.{Side}
 use Rattle.waker.specs.declared.wakers.Side.the-variants.{Sender, Receiver}
 use Rattle.channel.specs.Position.{slots, at}
-use Rattle.channel.specs.ZeroSteps.{sideOf}
-use Rattle.channel.specs.ArrayBounds.{Sized, Small, Within, SmallArray, SendSaved, ReceiveSaved, LenSaved, Saved}
-use Rattle.channel.specs.ZeroBounds.{Names, Bounded}
+use Rattle.zero.specs.ZeroSteps.{sideOf}
+use Rattle.channel.specs.PositionBounds.{Sized, Small, Within}
+use Rattle.array.specs.ArrayBounds.{SmallArray, SendSaved, ReceiveSaved, LenSaved, Saved}
+use Rattle.zero.specs.ZeroBounds.{Names, Bounded}
 use Rattle.channel.specs.declared.position.Position.{Position}
 use Rattle.channel.specs.declared.position.Shape.{Shape}
-use Rattle.channel.specs.declared.array.call.SendPlace.{SendPlace}
-use Rattle.channel.specs.declared.array.call.SendPlace.the-variants as send
-use Rattle.channel.specs.declared.array.call.ReceivePlace.{ReceivePlace}
-use Rattle.channel.specs.declared.array.call.ReceivePlace.the-variants as receive
-use Rattle.channel.specs.declared.array.call.LenPlace.{LenPlace}
-use Rattle.channel.specs.declared.array.call.LenPlace.the-variants as len
-use Rattle.channel.specs.declared.array.call.ArrayCall.{ArrayCall}
-use Rattle.channel.specs.declared.array.call.ArrayCall.the-variants as call
-use Rattle.channel.specs.declared.zero.call.ZeroCall.{ZeroCall}
-use Rattle.channel.specs.declared.zero.call.ZeroCall.the-variants.{First, Put, PutReady, Take, TakeReady, Wait, ReadyWait, Leave, Ask}
+use Rattle.array.specs.declared.call.SendPlace.{SendPlace}
+use Rattle.array.specs.declared.call.SendPlace.the-variants as send
+use Rattle.array.specs.declared.call.ReceivePlace.{ReceivePlace}
+use Rattle.array.specs.declared.call.ReceivePlace.the-variants as receive
+use Rattle.array.specs.declared.call.LenPlace.{LenPlace}
+use Rattle.array.specs.declared.call.LenPlace.the-variants as len
+use Rattle.array.specs.declared.call.ArrayCall.{ArrayCall}
+use Rattle.array.specs.declared.call.ArrayCall.the-variants as call
+use Rattle.zero.specs.declared.call.ZeroCall.{ZeroCall}
+use Rattle.zero.specs.declared.call.ZeroCall.the-variants.{First, Put, PutReady, Take, TakeReady, Wait, ReadyWait, Leave, Ask}
 use Rattle.places.specs.Tests.{_and_}
 use Rattle.schedule.specs.Record.{placeOf}
 use Rattle.places.specs.FormSaved.{tailInForm, wordInForm, slotInForm, sendInForm, receiveInForm, lenInForm, savedInForm}

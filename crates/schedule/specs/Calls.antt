@@ -4,8 +4,8 @@ use lib.Dec.{ltb, leb}
 use Rattle.waker.specs.Choice.{if_then_else_}
 use Rattle.waker.specs.declared.context.Thread.{Thread}
 use Rattle.channel.specs.Answer.{ticks}
-use Rattle.channel.specs.Array.{arrayStep}
-use Rattle.channel.specs.Zero.{zeroStep}
+use Rattle.array.specs.Array.{arrayStep}
+use Rattle.zero.specs.Zero.{zeroStep}
 use Rattle.channel.specs.declared.answer.Tick.{Tick}
 use Rattle.schedule.specs.Record.{placeOf, withThread, withClock, afterArray, afterZero, replied, refusedWith, acceptedAs}
 use Rattle.places.specs.Begin.{started}

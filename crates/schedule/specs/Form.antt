@@ -9,8 +9,8 @@ use Rattle.waker.specs.Context.{threads, thread}
 use Rattle.waker.specs.Wakers.{listed, wordOf}
 use Rattle.waker.specs.declared.wakers.Side.the-variants.{Sender, Receiver}
 use Rattle.channel.specs.Position.{slots, at}
-use Rattle.channel.specs.Zero.{packetAt}
-use Rattle.channel.specs.ArrayBounds.{Sized}
+use Rattle.zero.specs.Zero.{packetAt}
+use Rattle.channel.specs.PositionBounds.{Sized}
 use Rattle.channel.specs.declared.position.Shape.{Shape}
 use Rattle.places.specs.Tests.{_and_, not, allBelow}
 use Rattle.schedule.specs.Record.{placeOf}

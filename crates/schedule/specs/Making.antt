@@ -6,8 +6,8 @@ use Rattle.waker.specs.Choice.{if_then_else_}
 use Rattle.waker.specs.Context.{threads}
 use Rattle.channel.specs.Answer.{ticks}
 use Rattle.channel.specs.Position.{slots, shapeOf}
-use Rattle.channel.specs.Array.{freshArray}
-use Rattle.channel.specs.Zero.{freshZero}
+use Rattle.array.specs.Array.{freshArray}
+use Rattle.zero.specs.Zero.{freshZero}
 use Rattle.channel.specs.declared.position.Shape.{Shape}
 use Rattle.schedule.specs.Record.{threadAt, refusedWith, acceptedAs}
 use Rattle.places.specs.declared.place.Flavour.the-variants as flavour

@@ -2,12 +2,12 @@
 use Prim.Native.Nat.{ℕ, _+_}
 use lib.ListN.{getD, set}
 use Rattle.channel.specs.declared.answer.Tick.{Tick}
-use Rattle.channel.specs.declared.array.ArrayStepped.{ArrayStepped}
-use Rattle.channel.specs.declared.array.outcome.ArrayNext.{ArrayNext}
-use Rattle.channel.specs.declared.array.outcome.ArrayNext.the-variants as array
-use Rattle.channel.specs.declared.zero.ZeroStepped.{ZeroStepped}
-use Rattle.channel.specs.declared.zero.outcome.ZeroNext.{ZeroNext}
-use Rattle.channel.specs.declared.zero.outcome.ZeroNext.the-variants as zero
+use Rattle.array.specs.declared.ArrayStepped.{ArrayStepped}
+use Rattle.array.specs.declared.outcome.ArrayNext.{ArrayNext}
+use Rattle.array.specs.declared.outcome.ArrayNext.the-variants as array
+use Rattle.zero.specs.declared.ZeroStepped.{ZeroStepped}
+use Rattle.zero.specs.declared.outcome.ZeroNext.{ZeroNext}
+use Rattle.zero.specs.declared.outcome.ZeroNext.the-variants as zero
 use Rattle.places.specs.declared.place.Place.{Place}
 use Rattle.places.specs.declared.place.Place.the-variants.{Idle, Array, Zero, Done}
 use Rattle.schedule.specs.declared.record.ThreadRecord.{ThreadRecord}

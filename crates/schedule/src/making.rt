@@ -7,16 +7,16 @@ ghost use Rattle.schedule.specs.Making.{zeroRecord, freshArrayRecord, fr
 use crate::record::Record;
 use crate::record::Replied;
 use crate::record::ThreadRecord;
+use array::Array;
 use channel::answer::Tick;
-use channel::array::Array;
 use channel::position::SLOTS;
 use channel::position::Shape;
-use channel::zero::Zero;
 use places::place::Flavour;
 use places::place::Place;
 use places::refusal::Refusal;
 use places::refusal::Reply;
 use waker::context::THREADS;
+use zero::Zero;
 
 impl Record {
     /// A rendezvous record of this many threads, all 0 but for that count.

@@ -3,19 +3,19 @@ ghost use mathlib.Core.Path.{_≡_};
 ghost use Prim.Native.Nat.{_<_};
 ghost use Rattle.waker.specs.Context.{threads};
 ghost use Rattle.schedule.specs.Record.{placeOf, withThread, refusedWith, afterArray, afterZero, placeAfterArray, placeAfterZero};
+use array::Array;
+use array::ArrayStepped;
+use array::outcome::ArrayNext;
 use channel::answer::Tick;
-use channel::array::Array;
-use channel::array::ArrayStepped;
-use channel::array::outcome::ArrayNext;
 use channel::position::Shape;
-use channel::zero::Zero;
-use channel::zero::ZeroStepped;
-use channel::zero::outcome::ZeroNext;
 use places::place::Flavour;
 use places::place::Place;
 use places::refusal::Refusal;
 use places::refusal::Reply;
 use waker::context::THREADS;
+use zero::Zero;
+use zero::ZeroStepped;
+use zero::outcome::ZeroNext;
 
 /// A thread's record.
 pub struct ThreadRecord {

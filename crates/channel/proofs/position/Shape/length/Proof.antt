@@ -2,7 +2,7 @@
 use native.Mathlib.Omega.{arith}
 use borrow.Author.Tests.{lt-ltb, le-ltb, eq-eqb, ne-eqb}
 use Rattle.waker.specs.Choice.{if_then_else_}
-use Rattle.channel.specs.ArraySteps.{lengthOf}
+use Rattle.channel.specs.Position.{lengthOf}
 use Rattle.channel.proofs.position.Shape.length.Statement.{statement}
 use Rattle.channel.proofs.position.Shape.length.Tie as tie
 

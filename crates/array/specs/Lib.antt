@@ -1,0 +1,4 @@
+pub mod ArrayOutcome
+pub mod ArraySteps
+pub mod Array
+pub mod ArrayBounds

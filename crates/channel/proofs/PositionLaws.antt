@@ -1,4 +1,4 @@
--- Laws of mark and lap: the mark is the smallest power of two above the capacity, whichever way it is doubled to.
+-- Laws of mark and lap: the mark is the smallest power of two above the capacity, whichever way it is found.
 use Prim.Native.Nat.{ℕ, zero, suc, _+_, _*_, _^_, _<_, _≤_}
 use mathlib.Core.Path.{_≡_, refl}
 use mathlib.Core.Bool.{Bool, true, false}
@@ -22,18 +22,18 @@ power-gap e k h = go (leb k e) refl
     go false p = rw (two-pow-succ e) at (pow-le-pow-right {n = 2} (omega arith) (leb-false k e p))
 
 -- A power of two on the way to the mark: none below it is above the capacity.
-pub record Doubled (capacity m : ℕ) : Type 0 where
+record Doubled (capacity m : ℕ) : Type 0 where
   pub exponent : ℕ
   pub power : m ≡ 2 ^ exponent
   pub smallest : (k : ℕ) → capacity + 1 ≤ 2 ^ k → m ≤ 2 ^ k
 
-pub doubled-one : (capacity : ℕ) → Doubled capacity 1
+doubled-one : (capacity : ℕ) → Doubled capacity 1
 doubled-one capacity = record { exponent = 0; power = refl; smallest = λ k h. one-le-pow k 2 (omega arith) }
 
-pub doubled-some : (capacity m : ℕ) → Doubled capacity m → 0 < m
+doubled-some : (capacity m : ℕ) → Doubled capacity m → 0 < m
 doubled-some capacity m d = rw (d .power) (one-le-pow (d .exponent) 2 (omega arith))
 
-pub doubled-next : (capacity m : ℕ) → Doubled capacity m → m ≤ capacity → Doubled capacity (m + m)
+doubled-next : (capacity m : ℕ) → Doubled capacity m → m ≤ capacity → Doubled capacity (m + m)
 doubled-next capacity m d h =
     record {
       exponent = suc (d .exponent);
@@ -41,7 +41,7 @@ doubled-next capacity m d h =
       smallest = λ k above. rw (d .power) (power-gap (d .exponent) k (omega (arith, d .power)));
     }
 
-pub doubled-mark : (capacity m : ℕ) → Doubled capacity m → capacity < m → Mark capacity m
+doubled-mark : (capacity m : ℕ) → Doubled capacity m → capacity < m → Mark capacity m
 doubled-mark capacity m d h =
     record { exponent = d .exponent; power = d .power; above = omega arith; smallest = d .smallest }
 
@@ -67,12 +67,26 @@ mark-smallest capacity = mark-doubledTo capacity (capacity + 1) 1 (doubled-one c
 mark-least : (capacity m n : ℕ) → Mark capacity m → Mark capacity n → m ≤ n
 mark-least capacity m n a b = rw (b .power) (a .smallest (b .exponent) (rw (b .power) at (b .above)))
 
-pub mark-found : (capacity m : ℕ) → Doubled capacity m → capacity < m → m ≡ markOf capacity
-mark-found capacity m d h =
-    let a : Mark capacity m = doubled-mark capacity m d h in
+mark-one : (capacity m : ℕ) → Mark capacity m → m ≡ markOf capacity
+mark-one capacity m a =
     le-antisymm
     (mark-least capacity m (markOf capacity) a (mark-smallest capacity))
     (mark-least capacity (markOf capacity) m (mark-smallest capacity) a)
+
+-- A power of two above the capacity, whose half is not above it, is the mark.
+pub mark-of-bits : (capacity bits : ℕ) → capacity < 2 ^ bits → 2 ^ bits ≤ 2 * capacity + 1 → 2 ^ bits ≡ markOf capacity
+mark-of-bits capacity bits above half =
+    mark-one capacity (2 ^ bits)
+    (record {
+      exponent = bits;
+      power = refl;
+      above = omega (arith, above);
+      smallest = λ k h. least k h (leb (2 ^ bits) (2 ^ k)) refl;
+    })
+  where
+    least : (k : ℕ) → capacity + 1 ≤ 2 ^ k → (b : Bool) → leb (2 ^ bits) (2 ^ k) ≡ b → 2 ^ bits ≤ 2 ^ k
+    least k h true p = leb-true _ _ p
+    least k h false p = omega (arith, power-gap k bits (leb-false (2 ^ bits) (2 ^ k) p))
 
 -- The half of a mark is not above the capacity, so the mark is within twice the capacity.
 module _ (capacity bound : ℕ) (some : 0 < bound) (twice : capacity + capacity ≤ bound) where

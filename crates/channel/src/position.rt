@@ -17,16 +17,12 @@ pub struct Shape {
     pub lap: u64,
 }
 
-/// The smallest power of two above the capacity.
+/// The smallest power of two above the capacity: a bit more than the capacity's own.
 pub fn mark_of(capacity: u64) -> u64
     requires { ⌜ capacity < 2 ^ 32 ⌝ }
     ensures { λ r. ⌜ r ≡ markOf capacity ⌝ }
 {
-    let mut mark = 1;
-    while mark <= capacity {
-        mark = mark * 2;
-    }
-    mark
+    1u64 << (64 - u64::leading_zeros(capacity))
 }
 
 impl Shape {

@@ -1,31 +1,44 @@
--- `mark_of` meets its contract: the mark so far is a power of two, and none below it is above the capacity.
-use Prim.Native.Nat.{_+_, _-_}
+-- `mark_of` meets its contract: the capacity's leading zeros and its length in bits make 64.
+use Prim.Native.Nat.{ℕ, _+_, _*_, _%_, _^_, _<_, _≤_}
+use mathlib.Core.Path.{_≡_, ap, _∙_}
+use native.Mathlib.Nat.{lt-of-not-le, not-le-of-lt, one-mul}
 use native.Mathlib.Omega.{arith}
-use Rattle.channel.proofs.PositionLaws.{mul-two, Doubled, doubled-one, doubled-some, doubled-next, mark-found}
+use lib.Dec.{lit<}
+use lib.Pow.{pow-mono, shl-exact}
+use lib.Count.{leadingZeros, leading-le, leading-length}
+use mir.Facts.{fits-lit, fits-sub}
+use Rattle.channel.proofs.PositionLaws.{mark-of-bits}
 use Rattle.channel.proofs.position.mark_of.Statement.{statement}
 use Rattle.channel.proofs.position.mark_of.Tie as tie
 
-abbrev Inv-loop : tie.InvT-loop
-Inv-loop capacity mark₀ mark = Doubled capacity mark
+-- The length in bits, a power of two that is above the capacity and whose half is not.
+abbrev Length : ℕ → Type 0
+Length capacity = (m : ℕ) × (leadingZeros 64 capacity + m ≡ 64) × (capacity < 2 ^ m) × (2 ^ m ≤ 2 * capacity + 1)
 
-abbrev μ-loop : tie.MeasureT-loop
-μ-loop capacity mark₀ mark = capacity + 1 - mark
+length : (c : tie.Start) → Length (c .args .capacity)
+length c = leading-length 64 (c .args .capacity) (c .fits .capacity .fits)
 
-loop-holds : tie.Need-loop-holds Inv-loop μ-loop
-loop-holds c = doubled-one _
+-- A capacity below 2 ^ 32 has no more than 32 bits, so the shift has room.
+few : (c : tie.Start) → length c .0 < 33
+few c =
+    let below : 2 ^ length c .0 < 2 ^ 33 = omega (arith, c .pre, length c .3) in
+    lt-of-not-le (λ more. not-le-of-lt below (pow-mono more))
 
-mul-mark : tie.Need-mul-mark Inv-loop μ-loop
-mul-mark c = omega arith
+sub-result : tie.Need-sub-result
+sub-result c = omega (arith, leading-le 64 (c .args .capacity))
 
-loop-less : tie.Need-loop-less Inv-loop μ-loop
-loop-less c = omega (arith, doubled-some _ _ (c .before .loop .inv))
+cast-result : tie.Need-cast-result
+cast-result c = fits-sub (leadingZeros 64 (c .args .capacity)) (fits-lit tt)
 
-loop-again : tie.Need-loop-again Inv-loop μ-loop
-loop-again c = rw mul-two (doubled-next _ _ (c .before .loop .inv) (c .loop-test .taken))
+shl-result : tie.Need-shl-result
+shl-result c = omega (arith, few c, length c .1)
 
-returns : tie.Need-returns Inv-loop μ-loop
-returns c = mark-found _ _ (c .before .loop .inv) (c .loop-test .left)
+returns : tie.Need-returns
+returns c =
+    ap (λ (bits : ℕ). (1 * 2 ^ bits) % 2 ^ 64) (omega (arith, length c .1))
+    ∙ shl-exact 1 (length c .0) 64 (lit< tt) (omega (arith, few c))
+    ∙ one-mul (2 ^ length c .0)
+    ∙ mark-of-bits (c .args .capacity) (length c .0) (length c .2) (length c .3)
 
 pub mark-of-spec : {M : Type 1} → statement M
-mark-of-spec =
-    tie.close (tie.spec Inv-loop μ-loop loop-holds mul-mark loop-less loop-again returns)
+mark-of-spec = tie.close (tie.spec sub-result cast-result shl-result returns)

@@ -18,10 +18,8 @@ pub fn full() -> Run {
         .shows(76, 1);
     let second = one.begins(1, 1, 7, NONE)
         .stands(1, 0x1a)
-        .steps(1)
-        .stands(1, 0x1b)
-        .steps(1)
-        .stands(1, 0x1d);
+        .goes(1, 0x1b)
+        .goes(1, 0x1d);
     second.steps(1).takes(1, 3, 7)
 }
 
@@ -53,9 +51,7 @@ pub fn four() -> Run {
 fn stalled(capacity: u64) -> Run {
     Run::made(Record::make_array(capacity, 2))
         .begins(0, 1, 42, NONE)
-        .steps(0)
-        .steps(0)
-        .steps(0)
+        .walks(0, 3)
         .stands(0, 0x1e)
 }
 
@@ -65,26 +61,18 @@ pub fn receive_cycles() -> Run {
         .counts(1, 1)
         .begins(1, 2, 0, NONE)
         .stands(1, 0x2a);
-    let once = begun
-        .steps(1)
-        .stands(1, 0x2b)
-        .steps(1)
-        .stands(1, 0x2d)
-        .steps(1)
-        .stands(1, 0x2a);
-    once.steps(1)
-        .stands(1, 0x2b)
-        .steps(1)
-        .stands(1, 0x2d)
-        .steps(1)
-        .stands(1, 0x2a)
+    let once = begun.goes(1, 0x2b).goes(1, 0x2d).goes(1, 0x2a);
+    once.goes(1, 0x2b).goes(1, 0x2d).goes(1, 0x2a)
 }
 
 /// Row 10: capacity 1, same: a second `try_send` cycles A, B.
 pub fn send_cycles() -> Run {
     let begun = stalled(1).begins(1, 1, 7, NONE).stands(1, 0x1a);
-    let once = begun.steps(1).stands(1, 0x1b).steps(1).stands(1, 0x1a);
-    once.steps(1).stands(1, 0x1b).steps(1).stands(1, 0x1a)
+    begun
+        .goes(1, 0x1b)
+        .goes(1, 0x1a)
+        .goes(1, 0x1b)
+        .goes(1, 0x1a)
 }
 
 /// Row 11: rendezvous, two receivers waiting: a send picks the older.
@@ -96,26 +84,18 @@ pub fn older() -> Run {
         .steps(1);
     let sent = waiting
         .begins(0, 3, 42, NONE)
-        .steps(0)
-        .stands(0, 0x31)
-        .steps(0)
-        .steps(0)
+        .goes(0, 0x31)
+        .walks(0, 2)
         .takes(0, 1, 0);
-    sent.steps(2).steps(2).takes(2, 2, 42).stands(1, 0x43)
+    sent.walks(2, 2).takes(2, 2, 42).stands(1, 0x43)
 }
 
 /// Row 12: deadline 0 at clock 0, nobody opposite: a `recv` joins, is Aborted at its first poll, answers Timeout at its next step;
 pub fn late() -> Run {
     let joined = Run::made(Record::make_zero(2))
         .begins(0, 4, 0, 0)
-        .steps(0)
-        .stands(0, 0x43);
-    joined
-        .steps(0)
-        .stands(0, 0x45)
-        .shows(13, 2)
-        .steps(0)
-        .takes(0, 6, 0)
+        .goes(0, 0x43);
+    joined.goes(0, 0x45).shows(13, 2).steps(0).takes(0, 6, 0)
 }
 
 /// picked before that poll, it receives.
@@ -124,8 +104,8 @@ pub fn picked() -> Run {
         .begins(0, 4, 0, 0)
         .steps(0)
         .begins(1, 1, 42, NONE);
-    let sent = joined.steps(1).steps(1).steps(1).takes(1, 1, 0);
-    sent.steps(0).steps(0).takes(0, 2, 42)
+    let sent = joined.walks(1, 3).takes(1, 1, 0);
+    sent.walks(0, 2).takes(0, 2, 42)
 }
 
 /// Row 13: capacity 0 and 65: refusal 2.

@@ -84,6 +84,22 @@ impl Run {
         self.went_on(channel.step(Thread(thread)))
     }
 
+    /// Some steps of a thread, each of which must be accepted.
+    pub fn walks(self, thread: u32, steps: u32) -> Run {
+        let mut run = self;
+        let mut made = 0;
+        while made < steps {
+            run = run.steps(thread);
+            made += 1;
+        }
+        run
+    }
+
+    /// A step, after which the thread must stand here.
+    pub fn goes(self, thread: u32, code: u64) -> Run {
+        self.steps(thread).stands(thread, code)
+    }
+
     pub fn advances(self, ticks: u32) -> Run {
         let channel = self.channel;
         self.went_on(channel.advance(Tick(ticks)))
@@ -141,31 +157,18 @@ impl Run {
     /// A `try_send` in one go, its answer taken.
     pub fn sends(self, thread: u32, message: u32) -> Run {
         let begun = self.begins(thread, 1, message, NONE);
-        let sent = begun
-            .steps(thread)
-            .steps(thread)
-            .steps(thread)
-            .steps(thread)
-            .steps(thread);
-        sent.takes(thread, 1, 0)
+        begun.walks(thread, 5).takes(thread, 1, 0)
     }
 
     /// A `try_recv` in one go, its answer taken.
     pub fn receives(self, thread: u32, message: u32) -> Run {
         let begun = self.begins(thread, 2, 0, NONE);
-        let received = begun
-            .steps(thread)
-            .steps(thread)
-            .steps(thread)
-            .steps(thread)
-            .steps(thread);
-        received.takes(thread, 2, message)
+        begun.walks(thread, 5).takes(thread, 2, message)
     }
 
     /// A `len` in one go, its answer taken.
     pub fn counts(self, thread: u32, n: u32) -> Run {
         let begun = self.begins(thread, 5, 0, NONE);
-        let counted = begun.steps(thread).steps(thread).steps(thread);
-        counted.takes(thread, 7, n)
+        begun.walks(thread, 3).takes(thread, 7, n)
     }
 }

@@ -1,7 +1,7 @@
 -- 01's "Array steps": the local work of each place, on the one word that the place loads.
 use Prim.Native.Nat.{ℕ, _+_, _-_}
 use mathlib.Core.Bool.{Bool}
-use lib.Dec.{ltb, eqb}
+use lib.Dec.{eqb}
 use Rattle.waker.specs.Choice.{if_then_else_}
 use Rattle.channel.specs.Position.{at, indexOf, successor, isMarked, unmarked, lengthOf}
 use Rattle.array.specs.ArrayOutcome.{writes, goes, ends}

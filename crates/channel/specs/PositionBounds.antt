@@ -1,5 +1,5 @@
 -- What the code of positions relies on: the shape is that of a capacity, words are below 2^48, and words of a slot name one.
-use Prim.Native.Nat.{ℕ, _+_, _^_, _<_, _≤_}
+use Prim.Native.Nat.{_+_, _^_, _<_, _≤_}
 use mathlib.Core.Path.{_≡_}
 use Rattle.channel.specs.Position.{slots, indexOf}
 use Rattle.channel.specs.declared.position.Position.{Position}

@@ -1,3 +1,3 @@
-//! What the channels share with the schedule: answers, and the position words of the array.
+//! What both channels' calls answer, and the array's position words.
 pub mod answer;
 pub mod position;

@@ -17,7 +17,7 @@ pub struct Shape {
     pub lap: u64,
 }
 
-/// The smallest power of two above the capacity: a bit more than the capacity's own.
+/// The smallest power of two above the capacity: one bit longer than it.
 pub fn mark_of(capacity: u64) -> u64
     requires { ⌜ capacity < 2 ^ 32 ⌝ }
     ensures { λ r. ⌜ r ≡ markOf capacity ⌝ }

@@ -15,8 +15,8 @@ use Rattle.waker.specs.declared.wakers.Side.{Side}
 use Rattle.waker.specs.declared.wakers.Side.the-variants.{Sender, Receiver}
 use Rattle.waker.specs.declared.wakers.Wakers.{Wakers}
 use Rattle.waker.proofs.WakerLaws.{found-known}
-use Rattle.zero.specs.ZeroSteps.{sideOf, messageOf, aloneStep, firstStep, waitStep, askStep, callStep}
-use Rattle.zero.specs.Zero.{packet, noPacket, packetAt, withWakers, withPacket, flagged, packetFor, foundBy, sightOf, outcomeOf, applied, zeroStep, withMessage, withReady, withLeave, joinedBy}
+use Rattle.zero.specs.ZeroSteps.{sideOf, aloneStep, firstStep, waitStep, askStep, callStep}
+use Rattle.zero.specs.Zero.{packet, noPacket, withWakers, withPacket, flagged, packetFor, foundBy, sightOf, outcomeOf, applied, zeroStep, withMessage, withReady, withLeave, joinedBy}
 use Rattle.zero.specs.ZeroBounds.{Bounded, Names, Touches, Reaches}
 use Rattle.channel.specs.declared.answer.Tick.{Tick}
 use Rattle.zero.specs.declared.call.Offer.{Offer}

@@ -10,7 +10,6 @@ use Rattle.waker.specs.declared.context.Selected.the-variants as word
 use Rattle.waker.specs.declared.waker.Found.{Found}
 use Rattle.waker.specs.declared.waker.Found.the-variants.{Nobody, At}
 use Rattle.waker.specs.declared.wakers.Side.{Side}
-use Rattle.waker.specs.declared.wakers.Side.the-variants.{Sender, Receiver}
 use Rattle.waker.specs.declared.wakers.Wakers.{Wakers}
 use Rattle.zero.specs.ZeroSteps.{sideOf, messageOf, backTo, callStep}
 use Rattle.channel.specs.declared.answer.Tick.{Tick}

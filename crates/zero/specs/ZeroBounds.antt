@@ -1,5 +1,5 @@
 -- What the code of a step relies on: threads are of the table, queues can be walked, and one that is joined has room.
-use Prim.Native.Nat.{ℕ, _<_, _≤_}
+use Prim.Native.Nat.{_<_}
 use Rattle.waker.specs.Context.{threads}
 use Rattle.waker.specs.Waker.{Open}
 use Rattle.waker.specs.Wakers.{queueOn, Ready}

@@ -11,7 +11,7 @@ use Rattle.channel.proofs.PositionLaws.{mark-of-bits}
 use Rattle.channel.proofs.position.mark_of.Statement.{statement}
 use Rattle.channel.proofs.position.mark_of.Tie as tie
 
--- The length in bits, a power of two that is above the capacity and whose half is not.
+-- How many bits the capacity has: 2 to that power is above it, and the half of it is not.
 abbrev Length : ℕ → Type 0
 Length capacity = (m : ℕ) × (leadingZeros 64 capacity + m ≡ 64) × (capacity < 2 ^ m) × (2 ^ m ≤ 2 * capacity + 1)
 

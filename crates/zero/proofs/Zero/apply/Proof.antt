@@ -1,4 +1,4 @@
--- `channel::zero::Zero::apply` meets its contract: one law an effect.
+-- `zero::Zero::apply` meets its contract: one law an effect.
 use borrow.Author.Needs.{needs}
 use Rattle.zero.proofs.ZeroLaws.{walkable, touched, nothing-applied, pick-applied, join-applied, put-applied, take-applied, ready-applied, abort-applied, give-up-applied, leave-applied, clear-applied, disconnect-applied}
 use Rattle.zero.proofs.Zero.apply.Statement.{statement}

@@ -1,4 +1,4 @@
--- `channel::zero::Zero::found` meets its contract: the walk where the place is a first section, and nobody elsewhere.
+-- `zero::Zero::found` meets its contract: the walk where the place is a first section, and nobody elsewhere.
 use borrow.Author.Needs.{needs}
 use Rattle.zero.proofs.ZeroLaws.{walkable, first-found}
 use Rattle.zero.proofs.Zero.found.Statement.{statement}

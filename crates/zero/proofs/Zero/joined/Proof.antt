@@ -1,4 +1,4 @@
--- `channel::zero::Zero::joined` meets its contract.
+-- `zero::Zero::joined` meets its contract.
 use mathlib.Core.Path.{_∙_}
 use Rattle.zero.proofs.Zero.joined.Statement.{statement}
 use Rattle.zero.proofs.Zero.joined.Tie as tie

@@ -1,4 +1,4 @@
--- `channel::zero::Zero::new` meets its contract: the queues are what `Wakers::new` ensures.
+-- `zero::Zero::new` meets its contract: the queues are what `Wakers::new` ensures.
 use borrow.Author.Needs.{needs}
 use Rattle.zero.proofs.Zero.new.Statement.{statement}
 use Rattle.zero.proofs.Zero.new.Tie as tie

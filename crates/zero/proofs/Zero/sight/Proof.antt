@@ -1,4 +1,4 @@
--- `channel::zero::Zero::sight` meets its contract: each part is what its call ensures.
+-- `zero::Zero::sight` meets its contract: each part is what its call ensures.
 use borrow.Author.Needs.{needs}
 use Rattle.zero.proofs.ZeroLaws.{packet-known}
 use Rattle.zero.proofs.Zero.sight.Statement.{statement}

@@ -1,4 +1,4 @@
--- `channel::zero::Zero::step` meets its contract: look, work, and do.
+-- `zero::Zero::step` meets its contract: look, work, and do.
 use borrow.Author.Needs.{needs}
 use Rattle.zero.proofs.ZeroLaws.{reached, whole}
 use Rattle.zero.proofs.Zero.step.Statement.{statement}

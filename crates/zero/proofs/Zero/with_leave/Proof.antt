@@ -1,4 +1,4 @@
--- `channel::zero::Zero::with_leave` meets its contract.
+-- `zero::Zero::with_leave` meets its contract.
 use mathlib.Core.Path.{_∙_}
 use Rattle.zero.proofs.Zero.with_leave.Statement.{statement}
 use Rattle.zero.proofs.Zero.with_leave.Tie as tie

@@ -1,6 +1,5 @@
--- `channel::zero::Zero::with_message` meets its contract.
+-- `zero::Zero::with_message` meets its contract.
 use mathlib.Core.Path.{_∙_}
-use borrow.Author.Needs.{needs}
 use Rattle.zero.proofs.Zero.with_message.Statement.{statement}
 use Rattle.zero.proofs.Zero.with_message.Tie as tie
 

@@ -1,6 +1,5 @@
--- `channel::zero::Zero::with_ready` meets its contract.
+-- `zero::Zero::with_ready` meets its contract.
 use mathlib.Core.Path.{_∙_}
-use borrow.Author.Needs.{needs}
 use Rattle.zero.proofs.Zero.with_ready.Statement.{statement}
 use Rattle.zero.proofs.Zero.with_ready.Tie as tie
 

@@ -1,4 +1,4 @@
--- `channel::zero::meet::alone` meets its contract: one case a limit.
+-- `zero::meet::alone` meets its contract: one case a limit.
 use borrow.Author.Needs.{needs}
 use Rattle.zero.proofs.meet.alone.Statement.{statement}
 use Rattle.zero.proofs.meet.alone.Tie as tie

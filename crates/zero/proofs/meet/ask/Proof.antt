@@ -1,4 +1,4 @@
--- `channel::zero::meet::ask` meets its contract: one case a question, and one an answer of the flag.
+-- `zero::meet::ask` meets its contract: one case a question, and one an answer of the flag.
 use Rattle.waker.specs.Choice.{if_then_else_}
 use borrow.Author.Needs.{needs}
 use Rattle.zero.proofs.meet.ask.Statement.{statement}

@@ -1,4 +1,4 @@
--- `channel::zero::meet::first` meets its contract: one case a walk, and for Nobody one a value of the flag.
+-- `zero::meet::first` meets its contract: one case a walk, and for Nobody one a value of the flag.
 use Rattle.waker.specs.Choice.{if_then_else_}
 use borrow.Author.Needs.{needs}
 use Rattle.zero.proofs.meet.first.Statement.{statement}

@@ -1,4 +1,4 @@
--- `channel::zero::meet::leave` meets its contract: the answer is what `left` ensures.
+-- `zero::meet::leave` meets its contract: the answer is what `left` ensures.
 use borrow.Author.Needs.{needs}
 use Rattle.zero.proofs.meet.leave.Statement.{statement}
 use Rattle.zero.proofs.meet.leave.Tie as tie

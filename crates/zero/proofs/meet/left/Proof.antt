@@ -1,4 +1,4 @@
--- `channel::zero::meet::left` meets its contract: one case a word.
+-- `zero::meet::left` meets its contract: one case a word.
 use borrow.Author.Needs.{needs}
 use Rattle.zero.proofs.meet.left.Statement.{statement}
 use Rattle.zero.proofs.meet.left.Tie as tie

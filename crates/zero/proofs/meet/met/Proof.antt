@@ -1,4 +1,4 @@
--- `channel::zero::meet::met` meets its contract: one case a side.
+-- `zero::meet::met` meets its contract: one case a side.
 use borrow.Author.Needs.{needs}
 use Rattle.zero.proofs.meet.met.Statement.{statement}
 use Rattle.zero.proofs.meet.met.Tie as tie

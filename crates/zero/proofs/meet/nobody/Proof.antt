@@ -1,4 +1,4 @@
--- `channel::zero::meet::nobody` meets its contract: one case an offer.
+-- `zero::meet::nobody` meets its contract: one case an offer.
 use borrow.Author.Needs.{needs}
 use Rattle.zero.proofs.meet.nobody.Statement.{statement}
 use Rattle.zero.proofs.meet.nobody.Tie as tie

@@ -1,4 +1,4 @@
--- `channel::zero::meet::partner` meets its contract: one case an offer.
+-- `zero::meet::partner` meets its contract: one case an offer.
 use borrow.Author.Needs.{needs}
 use Rattle.zero.proofs.meet.partner.Statement.{statement}
 use Rattle.zero.proofs.meet.partner.Tie as tie

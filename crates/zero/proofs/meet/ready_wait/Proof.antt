@@ -1,4 +1,4 @@
--- `channel::zero::meet::ready_wait` meets its contract: one case a value of the mark.
+-- `zero::meet::ready_wait` meets its contract: one case a value of the mark.
 use Rattle.waker.specs.Choice.{if_then_else_}
 use borrow.Author.Needs.{needs}
 use Rattle.zero.proofs.meet.ready_wait.Statement.{statement}

@@ -1,4 +1,4 @@
--- `channel::zero::meet::wait` meets its contract: one case a word.
+-- `zero::meet::wait` meets its contract: one case a word.
 use borrow.Author.Needs.{needs}
 use Rattle.zero.proofs.meet.wait.Statement.{statement}
 use Rattle.zero.proofs.meet.wait.Tie as tie

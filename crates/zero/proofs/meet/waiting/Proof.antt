@@ -1,4 +1,4 @@
--- `channel::zero::meet::waiting` meets its contract: one case a side of the deadline.
+-- `zero::meet::waiting` meets its contract: one case a side of the deadline.
 use borrow.Author.Tests.{le-leb, lt-leb}
 use Rattle.waker.specs.Choice.{if_then_else_}
 use borrow.Author.Needs.{needs}

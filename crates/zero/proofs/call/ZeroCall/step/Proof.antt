@@ -1,4 +1,4 @@
--- `channel::zero::call::ZeroCall::step` meets its contract: one case a place, each what its function ensures.
+-- `zero::call::ZeroCall::step` meets its contract: one case a place, each what its function ensures.
 use borrow.Author.Needs.{needs}
 use Rattle.zero.proofs.call.ZeroCall.step.Statement.{statement}
 use Rattle.zero.proofs.call.ZeroCall.step.Tie as tie

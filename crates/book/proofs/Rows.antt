@@ -6,17 +6,17 @@ use Rattle.waker.specs.Wakers.{turnedAll}
 use Rattle.channel.specs.Position.{doubledTo, markOf, successor, unmarked}
 use Rattle.array.specs.Array.{stampsFrom}
 use Rattle.channel.specs.Position.{lengthOf}
-use Rattle.places.specs.Tests.{allBelow}
+use Rattle.bounds.specs.Tests.{allBelow}
 use Rattle.schedule.specs.Making.{madeArray, madeZero}
 use Rattle.places.specs.Begin.{codeOf}
-use Rattle.places.specs.FormSaved.{shapeInForm, tailInForm, wordInForm, slotInForm}
-use Rattle.places.specs.FormWaits.{standsOn, timesIn, entryInForm, queueInForm}
-use Rattle.schedule.specs.Form.{boundsHold, arrayInForm, zeroInForm, slotsInForm, queuesInForm, standsInForm, threadInForm, threadsInForm, inForm}
+use Rattle.forms.specs.FormSaved.{shapeInForm, tailInForm, wordInForm, slotInForm}
+use Rattle.forms.specs.FormWaits.{standsOn, timesIn, entryInForm, queueInForm}
+use Rattle.schedule.specs.Form.{arrayInForm, zeroInForm, slotsInForm, queuesInForm, standsInForm, threadInForm, threadsInForm, inForm}
 use Rattle.schedule.specs.Calls.{begun, begunInForm, stepped, steppedInForm, advanced, advancedInForm, taken, takenInForm}
 use Rattle.schedule.specs.History.{after}
 use Rattle.book.specs.Shows.{trail}
 use Rattle.book.specs.Table.{BenchBook}
 
 pub rows : BenchBook
-unfolding if_then_else_ queueOf without mayPick oldest turnedAll doubledTo markOf successor unmarked stampsFrom lengthOf allBelow madeArray madeZero codeOf shapeInForm tailInForm wordInForm slotInForm standsOn timesIn entryInForm queueInForm boundsHold arrayInForm zeroInForm slotsInForm queuesInForm standsInForm threadInForm threadsInForm inForm begun begunInForm stepped steppedInForm advanced advancedInForm taken takenInForm after trail
+unfolding if_then_else_ queueOf without mayPick oldest turnedAll doubledTo markOf successor unmarked stampsFrom lengthOf allBelow madeArray madeZero codeOf shapeInForm tailInForm wordInForm slotInForm standsOn timesIn entryInForm queueInForm arrayInForm zeroInForm slotsInForm queuesInForm standsInForm threadInForm threadsInForm inForm begun begunInForm stepped steppedInForm advanced advancedInForm taken takenInForm after trail
 rows = refl

@@ -17,8 +17,8 @@ use Rattle.places.specs.declared.place.Place.{Place}
 use Rattle.places.specs.declared.place.Place.the-variants.{Idle, Array, Zero, Done}
 use Rattle.schedule.specs.declared.record.Record.{Record}
 use Rattle.schedule.specs.declared.record.Replied.{Replied}
-use Rattle.places.specs.declared.refusal.Reply.{Reply}
-use Rattle.places.specs.declared.refusal.Reply.the-variants as reply
+use Rattle.bounds.specs.declared.refusal.Reply.{Reply}
+use Rattle.bounds.specs.declared.refusal.Reply.the-variants as reply
 
 -- 01's letters for the places of an array's send and receive.
 pub data Letter : Type 0 where

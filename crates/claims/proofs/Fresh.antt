@@ -12,11 +12,14 @@ use Rattle.array.specs.Array.{freshArray}
 use Rattle.channel.specs.declared.position.Position.{Position}
 use Rattle.channel.specs.declared.position.Shape.{Shape}
 use Rattle.channel.proofs.PositionLaws.{sized}
+use Rattle.bounds.specs.declared.flavour.Flavour.the-variants.{Array}
+use Rattle.bounds.proofs.LimitLaws.{capacity-some, capacity-most}
 use Rattle.schedule.specs.Record.{threadAt}
+use Rattle.schedule.specs.Making.{freshArrayRecord}
 use Rattle.places.specs.declared.place.Place.the-variants.{Idle}
 use Rattle.schedule.specs.declared.record.Record.{Record}
 use Rattle.grown.proofs.Lists.{all-one}
-use Rattle.grown.proofs.Makes.{MadeArray}
+use Rattle.grown.proofs.Makes.{Made}
 use Rattle.grown.proofs.ArrayKept.{KeptArray}
 use Rattle.grown.proofs.ArrayGrown.{stamps-length, fresh-stamps, kept-fresh}
 use Rattle.claims.specs.Claims.{nothing}
@@ -58,14 +61,14 @@ fresh-owners =
       apart = λ σ t u n e f. absurd (no-claim (nothing .calls t) (refl, refl) σ n e);
     }
 
-pub fresh : (capacity n : ℕ) (r : Record) → MadeArray capacity n r → Inv capacity (record { now = r; past = nothing })
+pub fresh : (capacity n : ℕ) (r : Record) → Made Array capacity n (freshArrayRecord capacity n) r → Inv capacity (record { now = r; past = nothing })
 fresh capacity n r m =
-    subst (λ (x : Record). KeptArray x → Inv capacity (record { now = x; past = nothing })) (m .made .same)
+    subst (λ (x : Record). KeptArray x → Inv capacity (record { now = x; past = nothing })) (m .same)
     (λ kept.
     record {
       kept = kept;
       sized = refl;
-      core = fresh-core capacity (m .some) (m .most);
+      core = fresh-core capacity (capacity-some capacity (m .fits .capacity)) (capacity-most capacity (m .fits .capacity));
       owners = fresh-owners;
       stands = λ t. rw (all-one threads t (threadAt Idle)) tt;
     })

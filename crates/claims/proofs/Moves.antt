@@ -15,7 +15,7 @@ use Rattle.array.specs.declared.call.ArrayCall.{ArrayCall}
 use Rattle.array.specs.declared.outcome.ArrayOutcome.{ArrayOutcome}
 use Rattle.schedule.specs.Record.{threadAt, placeOf, placeAfterArray, withThread, afterArray}
 use Rattle.places.specs.Begin.{codeOf, unlimited, startedArray, started}
-use Rattle.schedule.specs.Form.{stepLimit}
+use Rattle.bounds.specs.Limits.{stepLimit}
 use Rattle.schedule.specs.History.{Moment, updated}
 use Rattle.places.specs.declared.begin.Code.{Code}
 use Rattle.places.specs.declared.begin.Code.the-variants.{Unknown, TrySend, TryReceive, Send, Receive, Len, IsEmpty, IsFull, IsDisconnected, Disconnect}

@@ -12,13 +12,13 @@ use Rattle.array.specs.Array.{stampsFrom}
 use Rattle.channel.specs.Position.{lengthOf}
 use Rattle.channel.specs.declared.answer.Answer.{Answer}
 use Rattle.channel.specs.declared.answer.Answer.the-variants.{Sent, Received, Full, Empty, Disconnected, Number, Yes, No}
-use Rattle.places.specs.Tests.{allBelow}
+use Rattle.bounds.specs.Tests.{allBelow}
 use Rattle.schedule.specs.Record.{placeOf, acceptedAs}
 use Rattle.schedule.specs.Making.{madeArray, freshArrayRecord}
 use Rattle.places.specs.Begin.{codeOf, noDeadline}
-use Rattle.places.specs.FormSaved.{shapeInForm, tailInForm, wordInForm, slotInForm}
-use Rattle.places.specs.FormWaits.{standsOn, timesIn, entryInForm, queueInForm}
-use Rattle.schedule.specs.Form.{boundsHold, arrayInForm, zeroInForm, slotsInForm, queuesInForm, standsInForm, threadInForm, threadsInForm, inForm}
+use Rattle.forms.specs.FormSaved.{shapeInForm, tailInForm, wordInForm, slotInForm}
+use Rattle.forms.specs.FormWaits.{standsOn, timesIn, entryInForm, queueInForm}
+use Rattle.schedule.specs.Form.{arrayInForm, zeroInForm, slotsInForm, queuesInForm, standsInForm, threadInForm, threadsInForm, inForm}
 use Rattle.schedule.specs.Calls.{begun, begunInForm, stepped, steppedInForm, taken, takenInForm}
 use Rattle.schedule.specs.History.{Act, begins, steps, takes, Moment, reached, updated}
 use Rattle.places.specs.declared.begin.Code.{Code}
@@ -72,7 +72,7 @@ pub record Reachable : Type 0 where
   pub counts : moment (sent 42 ++ received ++ call 1 5 0 1 ++ sent 43) .past .calls 1 .counts ≡ 1 ∷ 1 ∷ 1 ∷ 0 ∷ 0 ∷ 0 ∷ 0 ∷ []
 
 pub reachable : Reachable
-unfolding if_then_else_ queueOf doubledTo markOf successor unmarked stampsFrom lengthOf allBelow madeArray codeOf shapeInForm tailInForm wordInForm slotInForm standsOn timesIn entryInForm queueInForm boundsHold arrayInForm zeroInForm slotsInForm queuesInForm standsInForm threadInForm threadsInForm inForm begun begunInForm stepped steppedInForm taken takenInForm reached updated
+unfolding if_then_else_ queueOf doubledTo markOf successor unmarked stampsFrom lengthOf allBelow madeArray codeOf shapeInForm tailInForm wordInForm slotInForm standsOn timesIn entryInForm queueInForm arrayInForm zeroInForm slotsInForm queuesInForm standsInForm threadInForm threadsInForm inForm begun begunInForm stepped steppedInForm taken takenInForm reached updated
 reachable =
     record {
       fresh = refl;

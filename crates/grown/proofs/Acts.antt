@@ -14,20 +14,25 @@ use Rattle.channel.specs.declared.answer.Tick.{Tick}
 use Rattle.channel.specs.declared.answer.Answer.{Answer}
 use Rattle.array.specs.declared.call.ArrayCall.{ArrayCall}
 use Rattle.zero.specs.declared.call.ZeroCall.{ZeroCall}
-use Rattle.schedule.specs.Record.{placeOf, withThread, withClock, afterArray, afterZero, replied, refusedWith, acceptedAs}
+use Rattle.bounds.specs.Limits.{stepLimit, clockLimit}
+use Rattle.bounds.specs.declared.limits.Clock.the-variants as clock
+use Rattle.bounds.specs.declared.refusal.Refusal.{Refusal}
+use Rattle.bounds.specs.declared.refusal.Refusal.the-variants.{OutOfForm, NoSuchThread, NotIdle, NotRunning, UnknownCall, StepLimit, ClockLimit, NoAnswer}
+use Rattle.bounds.specs.declared.refusal.Reply.the-variants.{Took}
 use Rattle.places.specs.Begin.{started}
-use Rattle.schedule.specs.Form.{inForm, stepLimit, clockLimit}
-use Rattle.schedule.specs.Calls.{formed, threaded, begun, begunInForm, begunAt, startedOn, stepped, steppedInForm, steppedAt, advanced, advancedInForm, taken, takenInForm, takenAt}
-use Rattle.schedule.specs.History.{Act, begins, steps, advances, takes, actOn, after, Moment, remembered, reached, next}
+use Rattle.places.specs.Turn.{startedFrom, begunFrom, goesOn, takenFrom}
 use Rattle.places.specs.declared.begin.Start.{Start}
 use Rattle.places.specs.declared.begin.Start.the-variants.{None, At}
 use Rattle.places.specs.declared.place.Place.{Place}
 use Rattle.places.specs.declared.place.Place.the-variants.{Idle, Array, Zero, Done}
+use Rattle.places.specs.declared.turn.Running.the-variants as running
+use Rattle.places.proofs.TurnLaws.{either-side}
+use Rattle.schedule.specs.Record.{placeOf, withThread, withClock, afterArray, afterZero, replied, refusedWith, acceptedAs, turnedBy}
+use Rattle.schedule.specs.Form.{inForm}
+use Rattle.schedule.specs.Calls.{formed, threaded, begun, begunInForm, stepped, steppedInForm, steppedBy, advanced, advancedInForm, advancedTo, taken, takenInForm}
+use Rattle.schedule.specs.History.{Act, begins, steps, advances, takes, actOn, after, Moment, remembered, reached, next}
 use Rattle.schedule.specs.declared.record.Record.{Record}
 use Rattle.schedule.specs.declared.record.Replied.{Replied}
-use Rattle.places.specs.declared.refusal.Refusal.{Refusal}
-use Rattle.places.specs.declared.refusal.Refusal.the-variants.{OutOfForm, NoSuchThread, NotIdle, NotRunning, UnknownCall, StepLimit, ClockLimit, NoAnswer}
-use Rattle.places.specs.declared.refusal.Reply.the-variants.{Took}
 
 -- P holds of a refusal, which changes nothing, and of each accepted change.
 pub record Cases (r : Record) (P : Act → Replied → Type 0) : Type 0 where
@@ -50,26 +55,33 @@ module _ (r : Record) (P : Act → Replied → Type 0) (C : Cases r P) where
   either a false p q = q refl
 
   on-start : (t : Thread) (c m : ℕ) (d : Tick) (s : Start) → t .0 < r .count → placeOf r (t .0) ≡ Idle →
-      started (r .flavour) c m d ≡ s → P (begins t c m d) (startedOn r (t .0) s)
+      started (r .flavour) c m d ≡ s → P (begins t c m d) (turnedBy r (t .0) (startedFrom s))
   on-start t c m d None l e f = C .refuse _ UnknownCall
   on-start t c m d (At p) l e f = C .begin t c m d p l e f
 
   on-begin : (t : Thread) (c m : ℕ) (d : Tick) (p : Place) → t .0 < r .count → placeOf r (t .0) ≡ p →
-      P (begins t c m d) (begunAt r (t .0) p (started (r .flavour) c m d))
+      P (begins t c m d) (turnedBy r (t .0) (begunFrom p (started (r .flavour) c m d)))
   on-begin t c m d Idle l e = on-start t c m d _ l e refl
   on-begin t c m d (Array k) l e = C .refuse _ NotIdle
   on-begin t c m d (Zero k) l e = C .refuse _ NotIdle
   on-begin t c m d (Done a) l e = C .refuse _ NotIdle
 
-  on-step : (t : Thread) (p : Place) → t .0 < r .count → placeOf r (t .0) ≡ p → P (steps t) (steppedAt r t p)
+  on-step : (t : Thread) (p : Place) → t .0 < r .count → placeOf r (t .0) ≡ p →
+      P (steps t) (steppedBy r t (goesOn p (r .steps)))
   on-step t Idle l e = C .refuse _ NotRunning
   on-step t (Array k) l e =
-      either (steps t) (leb stepLimit (r .steps)) (λ b. C .refuse _ StepLimit) (λ b. C .array t k l (leb-false _ _ b) e)
+      either-side (λ v. P (steps t) (steppedBy r t v)) (r .steps) (running.Array k) (C .refuse _ StepLimit) (λ few. C .array t k l few e)
   on-step t (Zero k) l e =
-      either (steps t) (leb stepLimit (r .steps)) (λ b. C .refuse _ StepLimit) (λ b. C .zero t k l (leb-false _ _ b) e)
+      either-side (λ v. P (steps t) (steppedBy r t v)) (r .steps) (running.Zero k) (C .refuse _ StepLimit) (λ few. C .zero t k l few e)
   on-step t (Done a) l e = C .refuse _ NotRunning
 
-  on-take : (t : Thread) (p : Place) → t .0 < r .count → placeOf r (t .0) ≡ p → P (takes t) (takenAt r (t .0) p)
+  on-advance : (n : Tick) (b : Bool) → ltb clockLimit (r .clock .0 + n .0) ≡ b →
+      P (advances n) (advancedTo r (if b then clock.Refused ClockLimit else clock.At (ticks (r .clock .0 + n .0))))
+  unfolding if_then_else_
+  on-advance n true e = C .refuse _ ClockLimit
+  on-advance n false e = C .advance n (ltb-false _ _ e)
+
+  on-take : (t : Thread) (p : Place) → t .0 < r .count → placeOf r (t .0) ≡ p → P (takes t) (turnedBy r (t .0) (takenFrom p))
   on-take t Idle l e = C .refuse _ NoAnswer
   on-take t (Array k) l e = C .refuse _ NoAnswer
   on-take t (Zero k) l e = C .refuse _ NoAnswer
@@ -88,9 +100,7 @@ module _ (r : Record) (P : Act → Replied → Type 0) (C : Cases r P) where
   every-reply (begins t c m d) = tested _ t _ (λ l. on-begin t c m d _ l refl)
   every-reply (steps t) = tested _ t _ (λ l. on-step t _ l refl)
   every-reply (advances n) =
-      either _ (inForm r)
-      (λ f. either _ (ltb clockLimit (r .clock .0 + n .0)) (λ b. C .refuse _ ClockLimit) (λ b. C .advance n (ltb-false _ _ b)))
-      (λ f. C .refuse _ OutOfForm)
+      either _ (inForm r) (λ f. on-advance n _ refl) (λ f. C .refuse _ OutOfForm)
   every-reply (takes t) = tested _ t _ (λ l. on-take t _ l refl)
 
 -- Each accepted change of a record keeps K.

@@ -29,16 +29,16 @@ use Rattle.array.specs.declared.call.IsFullPlace.the-variants as is-full
 use Rattle.array.specs.declared.call.ArrayCall.{ArrayCall}
 use Rattle.array.specs.declared.call.ArrayCall.the-variants.{Send, Receive, Len, IsEmpty, IsFull, IsDisconnected, Disconnect}
 use Rattle.channel.proofs.PositionLaws.{sized}
-use Rattle.places.specs.Tests.{allBelow}
+use Rattle.bounds.specs.Tests.{allBelow}
 use Rattle.schedule.specs.Record.{placeOf}
-use Rattle.places.specs.FormSaved.{shapeInForm, tailInForm, wordInForm, slotInForm, sendInForm, receiveInForm, lenInForm, isEmptyInForm, isFullInForm, savedInForm}
-use Rattle.places.specs.FormWaits.{waitInForm, standsOn, timesIn, queueInForm, entryInForm}
+use Rattle.forms.specs.FormSaved.{shapeInForm, tailInForm, wordInForm, slotInForm, sendInForm, receiveInForm, lenInForm, isEmptyInForm, isFullInForm, savedInForm}
+use Rattle.forms.specs.FormWaits.{waitInForm, standsOn, timesIn, queueInForm, entryInForm}
 use Rattle.schedule.specs.Form.{InForm, inForm, arrayInForm, slotsInForm, queuesInForm, placeInForm, partnerInForm, standsInForm, threadInForm, threadsInForm}
-use Rattle.places.specs.declared.place.Flavour.the-variants as flavour
+use Rattle.bounds.specs.declared.flavour.Flavour.the-variants as flavour
 use Rattle.places.specs.declared.place.Place.{Place}
 use Rattle.places.specs.declared.place.Place.the-variants.{Idle, Array, Zero, Done}
 use Rattle.schedule.specs.declared.record.Record.{Record}
-use Rattle.places.proofs.TestLaws.{all-below}
+use Rattle.bounds.proofs.TestLaws.{all-below}
 use Rattle.grown.proofs.Tests.{passes, fails}
 use Rattle.grown.proofs.Lists.{all-one}
 use Rattle.grown.proofs.Words.{Clear, Tailed, Stamped, clear-index, clear-unmarked, stamped-unmarked, tailed-index, tailed-low}

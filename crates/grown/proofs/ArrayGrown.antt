@@ -1,6 +1,7 @@
 -- A fresh array's record has what histories keep, and so every record grown from it is in form.
 use Prim.Native.Nat.{ℕ, zero, suc, _+_, _-_, _<_, _≤_}
 use mathlib.Core.Path.{_≡_, refl, ap, _∙_}
+use mathlib.Core.Bool.{true}
 use mathlib.Core.List.{List}
 use native.Mathlib.Omega.{arith}
 use native.Mathlib.Nat.{zero-mod, mod-eq-of-lt}
@@ -11,6 +12,9 @@ use Rattle.channel.specs.PositionBounds.{Fits}
 use Rattle.array.specs.Array.{stampsFrom, freshArray}
 use Rattle.channel.specs.declared.position.Position.{Position}
 use Rattle.channel.proofs.PositionLaws.{sized}
+use Rattle.bounds.specs.Limits.{countFits}
+use Rattle.bounds.specs.declared.flavour.Flavour.the-variants.{Array}
+use Rattle.bounds.proofs.LimitLaws.{capacity-some, capacity-most}
 use Rattle.schedule.specs.Record.{threadAt, acceptedAs}
 use Rattle.schedule.specs.Making.{madeArray, freshArrayRecord}
 use Rattle.schedule.specs.Form.{InForm}
@@ -19,7 +23,7 @@ use Rattle.places.specs.declared.place.Place.the-variants.{Idle}
 use Rattle.schedule.specs.declared.record.Record.{Record}
 use Rattle.grown.proofs.Lists.{all-one, past-all}
 use Rattle.grown.proofs.Acts.{throughout}
-use Rattle.grown.proofs.Makes.{MadeArray, made-array}
+use Rattle.grown.proofs.Makes.{Made, made-array}
 use Rattle.grown.proofs.Words.{Clear, plain}
 use Rattle.grown.proofs.ArrayKept.{Memories, KeptArray, reach}
 use Rattle.grown.proofs.ArrayForm.{kept-in-form}
@@ -65,8 +69,8 @@ module _ (c : ℕ) (some : 0 < c) (most : c ≤ slots) where
       clear : Clear (shapeOf c) B (at 0)
       clear = record { low = omega arith; slot = omega (arith, zero-mod (shapeOf c .lap)) }
 
-  fresh-kept : (n : ℕ) → 0 < n → n ≤ threads → KeptArray (freshArrayRecord c n)
-  fresh-kept n one few =
+  fresh-kept : (n : ℕ) → countFits n ≡ true → KeptArray (freshArrayRecord c n)
+  fresh-kept n fits =
       record {
         capacity = c;
         some = some;
@@ -74,14 +78,16 @@ module _ (c : ℕ) (some : 0 < c) (most : c ≤ slots) where
         shape = refl;
         flavour = refl;
         zero = refl;
-        bounds = record { some = one; most = few; steps = omega arith; clock = omega arith };
+        bounds = record { fits = fits; steps = omega arith; clock = omega arith };
         memory = fresh-memory (reach (freshArrayRecord c n));
         places = λ t. rw (all-one threads t (threadAt Idle)) tt;
         beyond = λ t l. rw (all-one threads t (threadAt Idle));
       }
 
-pub kept-fresh : (c n : ℕ) (r : Record) → MadeArray c n r → KeptArray r
-kept-fresh c n r m = rw (m .made .same) at (fresh-kept c (m .some) (m .most) n (m .made .some) (m .made .few))
+pub kept-fresh : (c n : ℕ) (r : Record) → Made Array c n (freshArrayRecord c n) r → KeptArray r
+kept-fresh c n r m =
+    let fits = m .fits in
+    rw (m .same) at (fresh-kept c (capacity-some c (fits .capacity)) (capacity-most c (fits .capacity)) n (fits .count))
 
 -- A record grown from a fresh array's is in form.
 pub grown-array : (c n : ℕ) (r : Record) → madeArray c n ≡ acceptedAs r → (l : List Act) → InForm (after r l)

@@ -19,7 +19,7 @@ use Rattle.array.specs.declared.call.IsFullPlace.the-variants as is-full
 use Rattle.array.specs.declared.call.ArrayCall.{ArrayCall}
 use Rattle.array.specs.declared.call.ArrayCall.the-variants.{Send, Receive, Len, IsEmpty, IsFull, IsDisconnected, Disconnect}
 use Rattle.schedule.specs.Record.{placeOf}
-use Rattle.places.specs.declared.place.Flavour.the-variants as flavour
+use Rattle.bounds.specs.declared.flavour.Flavour.the-variants as flavour
 use Rattle.places.specs.declared.place.Place.{Place}
 use Rattle.places.specs.declared.place.Place.the-variants.{Idle, Array, Zero, Done}
 use Rattle.schedule.specs.declared.record.Record.{Record}

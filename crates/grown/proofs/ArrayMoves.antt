@@ -11,7 +11,7 @@ use Rattle.array.specs.declared.call.ArrayCall.{ArrayCall}
 use Rattle.channel.proofs.PositionLaws.{sized}
 use Rattle.schedule.specs.Record.{threadAt, placeOf, placeAfterArray, withThread, afterArray}
 use Rattle.places.specs.Begin.{codeOf, unlimited, startedArray}
-use Rattle.schedule.specs.Form.{stepLimit}
+use Rattle.bounds.specs.Limits.{stepLimit}
 use Rattle.places.specs.declared.begin.Code.{Code}
 use Rattle.places.specs.declared.begin.Code.the-variants.{Unknown, TrySend, TryReceive, Send, Receive, Len, IsEmpty, IsFull, IsDisconnected, Disconnect}
 use Rattle.places.specs.declared.begin.Start.the-variants.{At}

@@ -4,31 +4,28 @@ use mathlib.Core.Path.{_≡_, refl}
 use mathlib.Core.Bool.{Bool, true, false}
 use native.Mathlib.Omega.{arith}
 use lib.Dec.{ltb}
-use borrow.Author.Tests.{le-leb, ne-eqb, ltb-false}
+use borrow.Author.Tests.{le-leb, ltb-false}
 use Rattle.waker.specs.Choice.{if_then_else_}
-use Rattle.waker.specs.Context.{threads}
 use Rattle.channel.specs.Answer.{ticks}
+use Rattle.bounds.specs.Limits.{stepLimit, clockLimit, countFits, boundsHold}
 use Rattle.schedule.specs.Record.{threadAt, placeOf, withThread, withClock}
-use Rattle.schedule.specs.Form.{boundsHold, counted, isIdle, stepLimit, clockLimit}
+use Rattle.schedule.specs.Form.{counted, isIdle}
 use Rattle.places.specs.declared.place.Place.{Place}
 use Rattle.places.specs.declared.place.Place.the-variants.{Idle}
 use Rattle.schedule.specs.declared.record.ThreadRecord.{ThreadRecord}
 use Rattle.schedule.specs.declared.record.Record.{Record}
-use Rattle.grown.proofs.Tests.{passes, fails}
+use Rattle.grown.proofs.Tests.{passes}
 use Rattle.grown.proofs.Lists.{at-set}
 
 pub record Bounds (r : Record) : Type 0 where
-  pub some : 0 < r .count
-  pub most : r .count ≤ threads
+  pub fits : countFits (r .count) ≡ true
   pub steps : r .steps ≤ stepLimit
   pub clock : r .clock .0 ≤ clockLimit
 
-pub bounds-hold : (r : Record) → Bounds r → boundsHold r ≡ true
-unfolding boundsHold
+pub bounds-hold : (r : Record) → Bounds r → boundsHold (r .count) (r .steps) (r .clock) ≡ true
 bounds-hold r b =
-    passes (fails (ne-eqb (r .count) 0 (omega arith)))
-    (passes (le-leb (r .count) threads (b .most))
-    (passes (le-leb (r .steps) stepLimit (b .steps)) (le-leb (r .clock .0) clockLimit (b .clock))))
+    passes (b .fits)
+    (passes (le-leb (r .steps) stepLimit (b .steps)) (le-leb (r .clock .0) clockLimit (b .clock)))
 
 -- Whatever lies past the thread count is idle.
 pub counted-form : (n t : ℕ) (p : Place) → (n ≤ t → p ≡ Idle) → counted n t p ≡ true
@@ -49,13 +46,13 @@ still-idle r t p l idle u h =
 -- The bounds of a record with the same count, and a later clock or one step more.
 pub same-bounds : {r s : Record} → s .count ≡ r .count → s .steps ≡ r .steps → s .clock ≡ r .clock → Bounds r → Bounds s
 same-bounds c n k b =
-    record { some = rw c (b .some); most = rw c (b .most); steps = rw n (b .steps); clock = rw k (b .clock) }
+    record { fits = rw c (b .fits); steps = rw n (b .steps); clock = rw k (b .clock) }
 
 pub later-bounds : {r : Record} (n : ℕ) → r .clock .0 + n ≤ clockLimit → Bounds r →
     Bounds (withClock r (ticks (r .clock .0 + n)))
-later-bounds n l b = record { some = b .some; most = b .most; steps = b .steps; clock = l }
+later-bounds n l b = record { fits = b .fits; steps = b .steps; clock = l }
 
 pub stepped-bounds : {r s : Record} → s .count ≡ r .count → s .steps ≡ r .steps + 1 → s .clock ≡ r .clock →
     r .steps < stepLimit → Bounds r → Bounds s
 stepped-bounds c n k l b =
-    record { some = rw c (b .some); most = rw c (b .most); steps = rw n (omega arith); clock = rw k (b .clock) }
+    record { fits = rw c (b .fits); steps = rw n (omega arith); clock = rw k (b .clock) }

@@ -7,9 +7,9 @@ use native.Mathlib.Decide.{ℕ-discrete}
 use Rattle.waker.specs.declared.context.Thread.{Thread}
 use Rattle.waker.specs.declared.context.Selected.the-variants.{Picked}
 use Rattle.waker.specs.declared.wakers.Side.{Side}
-use Rattle.places.specs.FormWaits.{queuedAt, standsOn, awaits, partnerOf, timesIn}
-use Rattle.places.specs.declared.waits.Partner.{Partner}
-use Rattle.places.specs.declared.waits.Partner.the-variants.{None, Of}
+use Rattle.forms.specs.FormWaits.{queuedAt, standsOn, awaits, partnerOf, timesIn}
+use Rattle.forms.specs.declared.waits.Partner.{Partner}
+use Rattle.forms.specs.declared.waits.Partner.the-variants.{None, Of}
 use Rattle.places.specs.declared.place.Place.{Place}
 use Rattle.grown.proofs.Tests.{clash}
 use Rattle.grown.proofs.Orderly.{Clean, Uses, View, Picks, Orderly}

@@ -21,7 +21,7 @@ use Rattle.zero.specs.declared.Zero.{Zero as Memory}
 use Rattle.zero.specs.declared.outcome.ZeroEffect.the-variants as effect
 use Rattle.zero.specs.declared.outcome.ZeroNext.the-variants.{Goes, Ends}
 use Rattle.zero.specs.declared.call.ZeroCall.the-variants.{Wait, ReadyWait, Leave}
-use Rattle.places.specs.FormWaits.{isPicked, mayLeave, timesIn}
+use Rattle.forms.specs.FormWaits.{isPicked, mayLeave, timesIn}
 use Rattle.places.specs.declared.place.Place.the-variants.{Zero, Done}
 use Rattle.schedule.specs.declared.record.ThreadRecord.{ThreadRecord}
 use Rattle.grown.proofs.Tests.{clash}

@@ -29,12 +29,12 @@ use Rattle.zero.specs.declared.call.Offer.the-variants.{Send, Receive}
 use Rattle.zero.specs.declared.call.Limit.{Limit}
 use Rattle.zero.specs.declared.call.Limit.the-variants.{Until}
 use Rattle.zero.specs.declared.call.ZeroCall.the-variants.{First, Wait}
-use Rattle.places.specs.FormWaits.{queuedAt, standsOn, partnerOf, timesIn}
-use Rattle.places.specs.declared.waits.Partner.the-variants.{Of}
+use Rattle.forms.specs.FormWaits.{queuedAt, standsOn, partnerOf, timesIn}
+use Rattle.forms.specs.declared.waits.Partner.the-variants.{Of}
 use Rattle.places.specs.declared.place.Place.{Place}
 use Rattle.places.specs.declared.place.Place.the-variants.{Zero}
 use Rattle.schedule.specs.declared.record.ThreadRecord.{ThreadRecord}
-use Rattle.places.proofs.TimesLaws.{room}
+use Rattle.forms.proofs.TimesLaws.{room}
 use Rattle.grown.proofs.Tests.{clash}
 use Rattle.grown.proofs.Lists.{at-set}
 use Rattle.waker.proofs.WakerLaws.{without-short}

@@ -10,9 +10,9 @@ use Rattle.waker.specs.declared.context.Thread.{Thread}
 use Rattle.waker.specs.declared.context.Selected.the-variants.{Waiting, Picked}
 use Rattle.waker.specs.declared.wakers.Side.{Side}
 use Rattle.waker.specs.declared.wakers.Side.the-variants.{Sender, Receiver}
-use Rattle.places.specs.FormWaits.{queuedAt, standsOn, awaits, partnerOf, timesIn}
-use Rattle.places.specs.declared.waits.Partner.{Partner}
-use Rattle.places.specs.declared.waits.Partner.the-variants.{Of}
+use Rattle.forms.specs.FormWaits.{queuedAt, standsOn, awaits, partnerOf, timesIn}
+use Rattle.forms.specs.declared.waits.Partner.{Partner}
+use Rattle.forms.specs.declared.waits.Partner.the-variants.{Of}
 use Rattle.places.specs.declared.place.Place.{Place}
 use Rattle.grown.proofs.Tests.{clash}
 use Rattle.grown.proofs.Orderly.{Uses, View, Picks, Orderly}

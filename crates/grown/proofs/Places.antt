@@ -13,8 +13,8 @@ use Rattle.waker.specs.declared.wakers.Side.the-variants.{Sender, Receiver}
 use Rattle.channel.specs.declared.answer.Tick.{Tick}
 use Rattle.zero.specs.declared.Packet.{Packet}
 use Rattle.zero.specs.declared.call.ZeroCall.the-variants.{First, Put, PutReady, Take, TakeReady, Wait, ReadyWait, Leave, Ask}
-use Rattle.places.specs.FormWaits.{isPicked, sameSide, mayLeave, queuedAt, standsOn, awaits, partnerOf}
-use Rattle.places.specs.declared.waits.Partner.the-variants.{None, Of}
+use Rattle.forms.specs.FormWaits.{isPicked, sameSide, mayLeave, queuedAt, standsOn, awaits, partnerOf}
+use Rattle.forms.specs.declared.waits.Partner.the-variants.{None, Of}
 use Rattle.places.specs.declared.place.Place.{Place}
 use Rattle.places.specs.declared.place.Place.the-variants.{Idle, Array, Zero, Done}
 use Rattle.grown.proofs.Tests.{clash}

@@ -19,8 +19,8 @@ use Rattle.zero.specs.declared.Packet.{Packet}
 use Rattle.zero.specs.declared.Zero.{Zero as Memory}
 use Rattle.zero.specs.declared.outcome.ZeroOutcome.{ZeroOutcome}
 use Rattle.schedule.specs.Record.{threadAt, placeAfterZero}
-use Rattle.places.specs.FormWaits.{queuedAt, standsOn, awaits, partnerOf, timesIn}
-use Rattle.places.specs.declared.waits.Partner.the-variants.{None}
+use Rattle.forms.specs.FormWaits.{queuedAt, standsOn, awaits, partnerOf, timesIn}
+use Rattle.forms.specs.declared.waits.Partner.the-variants.{None}
 use Rattle.places.specs.declared.place.Place.{Place}
 use Rattle.places.specs.declared.place.Place.the-variants.{Idle}
 use Rattle.schedule.specs.declared.record.ThreadRecord.{ThreadRecord}

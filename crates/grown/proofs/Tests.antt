@@ -4,7 +4,7 @@ use mathlib.Core.Path.{_≡_}
 use mathlib.Core.Bool.{Bool, true, false}
 use native.Mathlib.Omega.{arith}
 use Rattle.waker.specs.Choice.{if_then_else_}
-use Rattle.places.specs.Tests.{_and_, not}
+use Rattle.bounds.specs.Tests.{_and_, not}
 
 pub clash : true ≡ false → ⊥
 clash e = let z : _≡_ {A = ℕ} 0 1 = cc in omega arith

@@ -1,5 +1,5 @@
 -- How often a thread stands in a queue after each change, and whom a walk finds.
-use Prim.Native.Nat.{ℕ, zero, suc, _+_, _<_, _≤_}
+use Prim.Native.Nat.{ℕ, zero, suc, _+_, _<_}
 use mathlib.Core.Path.{_≡_, refl, sym, subst, _∙_}
 use mathlib.Core.Bool.{Bool, true, false}
 use mathlib.Core.Logic.{_≢_}
@@ -16,7 +16,7 @@ use Rattle.waker.specs.declared.context.Context.{Context}
 use Rattle.waker.specs.declared.context.Selected.{Selected}
 use Rattle.waker.specs.declared.context.Selected.the-variants as word
 use Rattle.waker.specs.declared.waker.Found.the-variants.{At}
-use Rattle.places.specs.FormWaits.{timesIn}
+use Rattle.forms.specs.FormWaits.{timesIn}
 use Rattle.grown.proofs.Tests.{clash}
 
 pub times-joined : (t : Thread) (l : List Thread) → timesIn (t .0) (l ++ (t ∷ [])) ≡ timesIn (t .0) l + 1

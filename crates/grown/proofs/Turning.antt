@@ -17,8 +17,8 @@ use Rattle.waker.specs.declared.context.Selected.the-variants.{Waiting, Picked,
 use Rattle.waker.specs.declared.wakers.Side.{Side}
 use Rattle.waker.specs.declared.wakers.Side.the-variants.{Sender, Receiver}
 use Rattle.waker.specs.declared.wakers.Wakers.{Wakers}
-use Rattle.places.specs.FormWaits.{queuedAt, standsOn, awaits, partnerOf, timesIn}
-use Rattle.places.specs.declared.waits.Partner.the-variants.{None, Of}
+use Rattle.forms.specs.FormWaits.{queuedAt, standsOn, awaits, partnerOf, timesIn}
+use Rattle.forms.specs.declared.waits.Partner.the-variants.{None, Of}
 use Rattle.places.specs.declared.place.Place.{Place}
 use Rattle.grown.proofs.Tests.{clash}
 use Rattle.grown.proofs.Lists.{at-set}

@@ -25,16 +25,16 @@ use Rattle.zero.specs.declared.call.ZeroCall.{ZeroCall}
 use Rattle.zero.specs.declared.call.ZeroCall.the-variants.{First, Put, PutReady, Take, TakeReady, Wait, ReadyWait, Leave, Ask}
 use Rattle.schedule.specs.Record.{placeOf}
 use Rattle.schedule.specs.Making.{noShape}
-use Rattle.places.specs.FormSaved.{slotInForm}
-use Rattle.places.specs.FormWaits.{unused, zeroWaitInForm, waitInForm, awaits, partnerOf, queueInForm, entryInForm}
+use Rattle.forms.specs.FormSaved.{slotInForm}
+use Rattle.forms.specs.FormWaits.{unused, zeroWaitInForm, waitInForm, awaits, partnerOf, queueInForm, entryInForm}
 use Rattle.schedule.specs.Form.{InForm, inForm, zeroInForm, slotsInForm, queuesInForm, placeInForm, namedInForm, standsInForm, threadInForm, threadsInForm}
-use Rattle.places.specs.declared.waits.Partner.{Partner}
-use Rattle.places.specs.declared.waits.Partner.the-variants.{None, Of}
-use Rattle.places.specs.declared.place.Flavour.the-variants as flavour
+use Rattle.forms.specs.declared.waits.Partner.{Partner}
+use Rattle.forms.specs.declared.waits.Partner.the-variants.{None, Of}
+use Rattle.bounds.specs.declared.flavour.Flavour.the-variants as flavour
 use Rattle.places.specs.declared.place.Place.{Place}
 use Rattle.places.specs.declared.place.Place.the-variants.{Idle, Array, Zero, Done}
 use Rattle.schedule.specs.declared.record.Record.{Record}
-use Rattle.places.proofs.TestLaws.{all-below}
+use Rattle.bounds.proofs.TestLaws.{all-below}
 use Rattle.grown.proofs.Tests.{clash, passes, fails}
 use Rattle.grown.proofs.Lists.{all-one, past-all}
 use Rattle.grown.proofs.Bounds.{bounds-hold, counted-form}

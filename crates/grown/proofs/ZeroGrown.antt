@@ -1,6 +1,7 @@
 -- A fresh rendezvous' record has what histories keep, and so every record grown from it is in form.
-use Prim.Native.Nat.{ℕ, _<_, _≤_}
+use Prim.Native.Nat.{ℕ}
 use mathlib.Core.Path.{_≡_, refl, sym}
+use mathlib.Core.Bool.{true}
 use mathlib.Core.List.{List, []}
 use native.Mathlib.Omega.{arith}
 use lib.ListN.{length-replicate}
@@ -12,17 +13,18 @@ use Rattle.waker.specs.declared.wakers.Side.{Side}
 use Rattle.waker.specs.declared.wakers.Side.the-variants.{Sender, Receiver}
 use Rattle.waker.proofs.WakerLaws.{entries-queueOf}
 use Rattle.zero.specs.Zero.{noPacket, freshZero}
+use Rattle.bounds.specs.Limits.{countFits}
 use Rattle.schedule.specs.Record.{threadAt, placeOf, acceptedAs}
 use Rattle.schedule.specs.Making.{madeZero, freshZeroRecord}
-use Rattle.places.specs.FormWaits.{partnerOf, timesIn}
+use Rattle.forms.specs.FormWaits.{partnerOf, timesIn}
 use Rattle.schedule.specs.Form.{InForm}
 use Rattle.schedule.specs.History.{Act, after}
-use Rattle.places.specs.declared.waits.Partner.the-variants.{Of}
+use Rattle.forms.specs.declared.waits.Partner.the-variants.{Of}
 use Rattle.places.specs.declared.place.Place.the-variants.{Idle}
 use Rattle.schedule.specs.declared.record.Record.{Record}
 use Rattle.grown.proofs.Lists.{all-one}
 use Rattle.grown.proofs.Acts.{throughout}
-use Rattle.grown.proofs.Makes.{made}
+use Rattle.grown.proofs.Makes.{made-zero}
 use Rattle.grown.proofs.Orderly.{viewOn, Orderly}
 use Rattle.grown.proofs.Places.{nobody, stands-not}
 use Rattle.grown.proofs.ZeroKept.{Tidy, Sound, KeptZero}
@@ -69,13 +71,13 @@ module _ (n : ℕ) where
         sole = λ t u σ τ v w e f s. absurd (unnamed t σ v e);
       }
 
-  fresh-kept : 0 < n → n ≤ threads → KeptZero (freshZeroRecord n)
-  fresh-kept some few =
+  fresh-kept : countFits n ≡ true → KeptZero (freshZeroRecord n)
+  fresh-kept fits =
       record {
         flavour = refl;
         shape = refl;
         array = refl;
-        bounds = record { some = some; most = few; steps = omega arith; clock = omega arith };
+        bounds = record { fits = fits; steps = omega arith; clock = omega arith };
         long = length-replicate threads (threadAt Idle);
         beyond = λ t l. fresh-idle t;
         sound = fresh-sound;
@@ -83,14 +85,12 @@ module _ (n : ℕ) where
       }
 
   pub kept-fresh : (r : Record) → madeZero n ≡ acceptedAs r → KeptZero r
-  unfolding madeZero
   kept-fresh r e =
-      let m = made (freshZeroRecord n) n r e in
-      rw (m .same) at (fresh-kept (m .some) (m .few))
+      let m = made-zero n r e in
+      rw (m .same) at (fresh-kept (m .fits .count))
 
   pub idle-fresh : (r : Record) → madeZero n ≡ acceptedAs r → (u : ℕ) → placeOf r u ≡ Idle
-  unfolding madeZero
-  idle-fresh r e u = rw (← made (freshZeroRecord n) n r e .same) (fresh-idle u)
+  idle-fresh r e u = rw (← made-zero n r e .same) (fresh-idle u)
 
   -- A record grown from a fresh rendezvous' is in form.
   pub grown-zero : (r : Record) → madeZero n ≡ acceptedAs r → (l : List Act) → InForm (after r l)

@@ -13,10 +13,11 @@ use Rattle.array.specs.Array.{freshArray}
 use Rattle.zero.specs.declared.Zero.{Zero as Memory}
 use Rattle.schedule.specs.Record.{placeOf}
 use Rattle.schedule.specs.Making.{noShape}
-use Rattle.places.specs.FormWaits.{timesIn}
-use Rattle.places.specs.declared.place.Flavour.the-variants as flavour
+use Rattle.forms.specs.FormWaits.{timesIn}
+use Rattle.bounds.specs.declared.flavour.Flavour.the-variants as flavour
 use Rattle.places.specs.declared.place.Place.the-variants.{Idle}
 use Rattle.schedule.specs.declared.record.Record.{Record}
+use Rattle.bounds.proofs.LimitLaws.{count-most}
 use Rattle.grown.proofs.Bounds.{Bounds}
 use Rattle.grown.proofs.Orderly.{viewOn, Orderly}
 use Rattle.grown.proofs.Places.{stands-not}
@@ -47,7 +48,7 @@ inside r k u busy = go (decLe (r .count) u)
   where
     go : Dec (r .count ≤ u) → u < threads
     go (yes l) = absurd (busy (k .beyond u l))
-    go (no l) = omega (arith, k .bounds .most)
+    go (no l) = omega (arith, count-most (r .count) (k .bounds .fits))
 
 pub queued-inside : (r : Record) → KeptZero r → (u : ℕ) (σ : Side) → 0 < timesIn u (listed (r .zero .wakers) σ) → u < threads
 queued-inside r k u σ l =

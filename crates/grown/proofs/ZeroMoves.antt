@@ -19,15 +19,16 @@ use Rattle.zero.specs.declared.call.ZeroCall.{ZeroCall}
 use Rattle.zero.specs.declared.call.ZeroCall.the-variants.{First, Ask}
 use Rattle.schedule.specs.Record.{threadAt, placeOf, withThread, afterZero}
 use Rattle.places.specs.Begin.{codeOf, unlimited, startedZero}
-use Rattle.schedule.specs.Form.{stepLimit}
-use Rattle.places.specs.FormWaits.{queuedAt, awaits, partnerOf}
+use Rattle.bounds.specs.Limits.{stepLimit}
+use Rattle.forms.specs.FormWaits.{queuedAt, awaits, partnerOf}
 use Rattle.places.specs.declared.begin.Code.{Code}
 use Rattle.places.specs.declared.begin.Code.the-variants.{Unknown, TrySend, TryReceive, Send, Receive, Len, IsEmpty, IsFull, IsDisconnected, Disconnect}
 use Rattle.places.specs.declared.begin.Start.the-variants.{At}
-use Rattle.places.specs.declared.waits.Partner.the-variants.{None}
+use Rattle.forms.specs.declared.waits.Partner.the-variants.{None}
 use Rattle.places.specs.declared.place.Place.{Place}
 use Rattle.places.specs.declared.place.Place.the-variants.{Idle, Zero, Done}
 use Rattle.schedule.specs.declared.record.Record.{Record}
+use Rattle.bounds.proofs.LimitLaws.{count-most}
 use Rattle.grown.proofs.Acts.{Moves}
 use Rattle.grown.proofs.Starts.{at-place, never, begun-at}
 use Rattle.grown.proofs.Bounds.{still-idle, same-bounds, later-bounds, stepped-bounds}
@@ -81,7 +82,7 @@ module _ (r : Record) (k : KeptZero r) where
         sound = k .sound;
         orderly = k .orderly;
         long = k .long;
-        there = omega (arith, k .bounds .most);
+        there = omega (arith, count-most (r .count) (k .bounds .fits));
         inside = queued-inside r k;
       }
 

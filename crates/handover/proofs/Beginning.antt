@@ -16,7 +16,7 @@ use Rattle.channel.specs.declared.answer.Answer.{Answer}
 use Rattle.schedule.specs.Record.{placeOf, withThread}
 use Rattle.schedule.specs.History.{Act, begins, takes, Moment, updated}
 use Rattle.places.specs.Begin.{codeOf, startedZero}
-use Rattle.places.specs.FormWaits.{awaits}
+use Rattle.forms.specs.FormWaits.{awaits}
 use Rattle.places.specs.declared.begin.Code.{Code}
 use Rattle.places.specs.declared.begin.Code.the-variants.{Unknown, TrySend, TryReceive, Send, Receive, Len, IsEmpty, IsFull, IsDisconnected, Disconnect}
 use Rattle.places.specs.declared.begin.Start.the-variants.{At}

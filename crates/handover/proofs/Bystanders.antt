@@ -24,7 +24,7 @@ use Rattle.zero.specs.declared.outcome.ZeroEffect.{ZeroEffect}
 use Rattle.zero.specs.declared.outcome.ZeroEffect.the-variants as effect
 use Rattle.zero.specs.declared.outcome.ZeroOutcome.{ZeroOutcome}
 use Rattle.schedule.specs.Record.{placeOf, placeAfterZero}
-use Rattle.places.specs.FormWaits.{timesIn}
+use Rattle.forms.specs.FormWaits.{timesIn}
 use Rattle.schedule.specs.History.{steps, Moment, updated}
 use Rattle.places.specs.declared.place.Place.the-variants.{Zero}
 use Rattle.grown.proofs.Turning.{Turned, stays, turns, turned-both}

@@ -23,9 +23,9 @@ use Rattle.zero.specs.declared.outcome.ZeroEffect.the-variants as effect
 use Rattle.zero.specs.declared.outcome.ZeroNext.the-variants.{Goes}
 use Rattle.zero.specs.declared.outcome.ZeroOutcome.{ZeroOutcome}
 use Rattle.schedule.specs.Record.{placeOf}
-use Rattle.places.specs.FormWaits.{awaits, partnerOf, timesIn}
+use Rattle.forms.specs.FormWaits.{awaits, partnerOf, timesIn}
 use Rattle.schedule.specs.History.{Act, begins, steps, advances, takes, Moment, next}
-use Rattle.places.specs.declared.waits.Partner.the-variants.{Of}
+use Rattle.forms.specs.declared.waits.Partner.the-variants.{Of}
 use Rattle.places.specs.declared.place.Place.the-variants.{Zero}
 use Rattle.grown.proofs.Departures.{unlike}
 use Rattle.grown.proofs.Scene.{my-word}

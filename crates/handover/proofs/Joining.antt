@@ -30,7 +30,7 @@ use Rattle.zero.specs.declared.outcome.ZeroNext.the-variants.{Goes, Ends}
 use Rattle.zero.specs.declared.outcome.ZeroOutcome.{ZeroOutcome}
 use Rattle.schedule.specs.Record.{placeOf}
 use Rattle.schedule.specs.History.{Moment}
-use Rattle.places.specs.FormWaits.{sameSide, timesIn}
+use Rattle.forms.specs.FormWaits.{sameSide, timesIn}
 use Rattle.places.specs.declared.place.Place.the-variants.{Zero}
 use Rattle.grown.proofs.Scene.{Scene, my-word, my-packet, absent}
 use Rattle.grown.proofs.ZeroMemory.{same-words, list-here}

@@ -19,8 +19,8 @@ use Rattle.zero.specs.declared.outcome.ZeroEffect.the-variants.{Nothing}
 use Rattle.zero.specs.declared.outcome.ZeroOutcome.{ZeroOutcome}
 use Rattle.schedule.specs.Record.{placeOf, placeAfterZero}
 use Rattle.schedule.specs.History.{steps, Moment}
-use Rattle.places.specs.FormWaits.{awaits, partnerOf}
-use Rattle.places.specs.declared.waits.Partner.the-variants.{Of}
+use Rattle.forms.specs.FormWaits.{awaits, partnerOf}
+use Rattle.forms.specs.declared.waits.Partner.the-variants.{Of}
 use Rattle.places.specs.declared.place.Place.the-variants.{Zero}
 use Rattle.grown.proofs.Tests.{clash}
 use Rattle.handover.specs.Meetings.{Past, opposes, wordAt, packetOf}

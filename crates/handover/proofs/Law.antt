@@ -7,9 +7,9 @@ use Rattle.waker.specs.declared.wakers.Side.the-variants.{Sender}
 use Rattle.zero.specs.Zero.{packetFor}
 use Rattle.zero.specs.declared.call.ZeroCall.{ZeroCall}
 use Rattle.zero.specs.declared.call.ZeroCall.the-variants.{First, Put, PutReady, Take, TakeReady, Wait, ReadyWait, Leave, Ask}
-use Rattle.places.specs.FormWaits.{zeroPartner}
+use Rattle.forms.specs.FormWaits.{zeroPartner}
 use Rattle.schedule.specs.History.{Moment}
-use Rattle.places.specs.declared.waits.Partner.the-variants.{Of}
+use Rattle.forms.specs.declared.waits.Partner.the-variants.{Of}
 use Rattle.handover.specs.Meetings.{Past}
 use Rattle.handover.specs.Statement.{Holds}
 use Rattle.handover.proofs.Inv.{Inv}

@@ -21,9 +21,9 @@ use Rattle.zero.specs.declared.call.ZeroCall.the-variants.{First, Put, PutReady
 use Rattle.zero.specs.declared.outcome.ZeroEffect.the-variants as effect
 use Rattle.zero.specs.declared.outcome.ZeroNext.the-variants.{Ends as Ended}
 use Rattle.schedule.specs.Record.{placeOf, placeAfterZero}
-use Rattle.places.specs.FormWaits.{isPicked, awaits, zeroPartner, partnerOf}
+use Rattle.forms.specs.FormWaits.{isPicked, awaits, zeroPartner, partnerOf}
 use Rattle.schedule.specs.History.{steps, Moment, next, updated}
-use Rattle.places.specs.declared.waits.Partner.the-variants.{Of}
+use Rattle.forms.specs.declared.waits.Partner.the-variants.{Of}
 use Rattle.places.specs.declared.place.Place.{Place}
 use Rattle.places.specs.declared.place.Place.the-variants.{Idle, Array, Zero, Done}
 use Rattle.grown.proofs.Tests.{clash}

@@ -16,9 +16,9 @@ use Rattle.places.specs.declared.place.Place.{Place}
 use Rattle.places.specs.declared.place.Place.the-variants.{Idle, Array, Zero}
 use Rattle.schedule.specs.declared.record.Record.{Record}
 use Rattle.schedule.specs.declared.record.ThreadRecord.{ThreadRecord}
-use Rattle.places.specs.declared.refusal.Refusal.{Refusal}
-use Rattle.places.specs.declared.refusal.Reply.{Reply}
-use Rattle.places.specs.declared.refusal.Reply.the-variants.{Done, Refused}
+use Rattle.bounds.specs.declared.refusal.Refusal.{Refusal}
+use Rattle.bounds.specs.declared.refusal.Reply.{Reply}
+use Rattle.bounds.specs.declared.refusal.Reply.the-variants.{Done, Refused}
 use Rattle.grown.proofs.Acts.{every-reply}
 use Rattle.grown.proofs.Scene.{Scene, here}
 use Rattle.grown.proofs.ZeroKept.{KeptZero}

@@ -28,7 +28,7 @@ use Rattle.zero.specs.declared.outcome.ZeroEffect.the-variants as effect
 use Rattle.zero.specs.declared.outcome.ZeroNext.the-variants.{Goes}
 use Rattle.zero.specs.declared.outcome.ZeroOutcome.{ZeroOutcome}
 use Rattle.schedule.specs.Record.{placeOf, placeAfterZero}
-use Rattle.places.specs.FormWaits.{timesIn}
+use Rattle.forms.specs.FormWaits.{timesIn}
 use Rattle.schedule.specs.History.{steps, Moment, next}
 use Rattle.places.specs.declared.place.Place.the-variants.{Zero, Done}
 use Rattle.grown.proofs.Times.{found}

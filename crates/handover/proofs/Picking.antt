@@ -25,8 +25,8 @@ use Rattle.zero.specs.declared.outcome.ZeroNext.the-variants.{Goes}
 use Rattle.zero.specs.declared.outcome.ZeroOutcome.{ZeroOutcome}
 use Rattle.schedule.specs.Record.{placeOf}
 use Rattle.schedule.specs.History.{steps, Moment, updated}
-use Rattle.places.specs.FormWaits.{sameSide, partnerOf, timesIn}
-use Rattle.places.specs.declared.waits.Partner.the-variants.{Of}
+use Rattle.forms.specs.FormWaits.{sameSide, partnerOf, timesIn}
+use Rattle.forms.specs.declared.waits.Partner.the-variants.{Of}
 use Rattle.places.specs.declared.place.Place.the-variants.{Zero}
 use Rattle.grown.proofs.Tests.{clash}
 use Rattle.grown.proofs.Times.{Finds, found}

@@ -15,7 +15,7 @@ use Rattle.waker.specs.declared.context.Thread.{Thread}
 use Rattle.waker.specs.declared.context.Context.{Context}
 use Rattle.waker.specs.declared.context.Selected.the-variants.{Waiting}
 use Rattle.waker.specs.declared.waker.Found.the-variants.{Nobody, At}
-use Rattle.places.specs.FormWaits.{timesIn}
+use Rattle.forms.specs.FormWaits.{timesIn}
 use Rattle.grown.proofs.Tests.{clash}
 use Rattle.handover.specs.Statement.{aheadOf}
 

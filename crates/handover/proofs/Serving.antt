@@ -21,8 +21,8 @@ use Rattle.zero.specs.declared.outcome.ZeroNext.the-variants.{Goes, Ends}
 use Rattle.zero.specs.declared.outcome.ZeroOutcome.{ZeroOutcome}
 use Rattle.schedule.specs.Record.{placeOf, placeAfterZero}
 use Rattle.schedule.specs.History.{Moment}
-use Rattle.places.specs.FormWaits.{partnerOf}
-use Rattle.places.specs.declared.waits.Partner.the-variants.{Of}
+use Rattle.forms.specs.FormWaits.{partnerOf}
+use Rattle.forms.specs.declared.waits.Partner.the-variants.{Of}
 use Rattle.places.specs.declared.place.Place.the-variants.{Zero, Done}
 use Rattle.schedule.specs.declared.record.Record.{Record}
 use Rattle.grown.proofs.Tests.{clash}

@@ -17,8 +17,8 @@ use Rattle.zero.specs.declared.call.Limit.the-variants.{Try, Until}
 use Rattle.zero.specs.declared.call.ZeroCall.the-variants.{First, Put, PutReady, Take, TakeReady, Wait, ReadyWait, Leave, Ask}
 use Rattle.schedule.specs.Record.{placeOf}
 use Rattle.schedule.specs.History.{Act, Moment}
-use Rattle.places.specs.FormWaits.{partnerOf}
-use Rattle.places.specs.declared.waits.Partner.the-variants.{Of}
+use Rattle.forms.specs.FormWaits.{partnerOf}
+use Rattle.forms.specs.declared.waits.Partner.the-variants.{Of}
 use Rattle.places.specs.declared.place.Place.{Place}
 use Rattle.places.specs.declared.place.Place.the-variants.{Idle, Array, Zero, Done}
 use Rattle.handover.specs.Meetings.{Past, senderOf, wordAt, packetOf}

@@ -15,9 +15,9 @@ use Rattle.zero.specs.declared.call.Limit.{Limit}
 use Rattle.zero.specs.declared.call.Question.the-variants.{Disconnect}
 use Rattle.zero.specs.declared.call.ZeroCall.the-variants.{First, Ask}
 use Rattle.schedule.specs.Record.{placeOf}
-use Rattle.places.specs.FormWaits.{awaits, partnerOf, timesIn}
+use Rattle.forms.specs.FormWaits.{awaits, partnerOf, timesIn}
 use Rattle.schedule.specs.History.{Act, steps, Moment}
-use Rattle.places.specs.declared.waits.Partner.the-variants.{Of}
+use Rattle.forms.specs.declared.waits.Partner.the-variants.{Of}
 use Rattle.places.specs.declared.place.Place.the-variants.{Zero}
 use Rattle.handover.specs.Meetings.{Past, wordAt, packetOf}
 use Rattle.handover.specs.Statement.{queueAt, aheadOf}

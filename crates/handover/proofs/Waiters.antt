@@ -14,8 +14,8 @@ use Rattle.zero.specs.declared.call.Limit.{Limit}
 use Rattle.zero.specs.declared.call.Limit.the-variants.{Try, Until}
 use Rattle.schedule.specs.Record.{placeOf}
 use Rattle.schedule.specs.History.{Moment}
-use Rattle.places.specs.FormWaits.{queuedAt, awaits, partnerOf, timesIn}
-use Rattle.places.specs.declared.waits.Partner.the-variants.{Of}
+use Rattle.forms.specs.FormWaits.{queuedAt, awaits, partnerOf, timesIn}
+use Rattle.forms.specs.declared.waits.Partner.the-variants.{Of}
 use Rattle.places.specs.declared.place.Place.{Place}
 use Rattle.grown.proofs.Tests.{clash}
 use Rattle.grown.proofs.Orderly.{viewOn, Picks}

@@ -20,7 +20,7 @@ use Rattle.zero.specs.declared.outcome.ZeroEffect.{ZeroEffect}
 use Rattle.zero.specs.declared.outcome.ZeroEffect.the-variants as effect
 use Rattle.schedule.specs.Record.{placeOf}
 use Rattle.places.specs.Begin.{codeOf, carriedBy}
-use Rattle.places.specs.FormWaits.{sameSide}
+use Rattle.forms.specs.FormWaits.{sameSide}
 use Rattle.schedule.specs.History.{Act, begins, steps, advances, takes, Moment, reached, updated}
 use Rattle.places.specs.declared.begin.Code.{Code}
 use Rattle.places.specs.declared.begin.Code.the-variants as code

@@ -26,12 +26,12 @@ use Rattle.zero.specs.declared.call.ZeroCall.{ZeroCall}
 use Rattle.zero.specs.declared.call.ZeroCall.the-variants.{First, Wait, ReadyWait, Leave, Ask}
 use Rattle.schedule.specs.Record.{placeOf, acceptedAs}
 use Rattle.schedule.specs.Making.{madeZero}
-use Rattle.places.specs.FormWaits.{awaits, zeroPartner, partnerOf, timesIn}
+use Rattle.forms.specs.FormWaits.{awaits, zeroPartner, partnerOf, timesIn}
 use Rattle.schedule.specs.History.{Act, steps, actOn, Moment, next}
-use Rattle.places.specs.declared.waits.Partner.the-variants.{Of}
+use Rattle.forms.specs.declared.waits.Partner.the-variants.{Of}
 use Rattle.places.specs.declared.place.Place.the-variants.{Zero, Done}
 use Rattle.schedule.specs.declared.record.Record.{Record}
-use Rattle.places.specs.declared.refusal.Reply.the-variants as reply
+use Rattle.bounds.specs.declared.refusal.Reply.the-variants as reply
 use Rattle.handover.specs.Meetings.{Past, tryCode, waitCode, askCode, pairOf, senderOf, wordAt, packetOf, rule, momentAfter}
 
 -- A side's queue, oldest entry first, and how many entries stand before t in it.

@@ -15,8 +15,8 @@ use Rattle.zero.specs.declared.call.Limit.{Limit}
 use Rattle.zero.specs.declared.call.Limit.the-variants.{Try, Until}
 use Rattle.zero.specs.declared.call.Question.the-variants as ask
 use Rattle.zero.specs.declared.call.ZeroCall.the-variants.{First, Ask}
-use Rattle.places.specs.declared.place.Flavour.{Flavour}
-use Rattle.places.specs.declared.place.Flavour.the-variants as flavour
+use Rattle.bounds.specs.declared.flavour.Flavour.{Flavour}
+use Rattle.bounds.specs.declared.flavour.Flavour.the-variants as flavour
 use Rattle.places.specs.declared.place.Place.{Place}
 use Rattle.places.specs.declared.place.Place.the-variants.{Array, Zero}
 use Rattle.places.specs.declared.begin.Code.{Code}

@@ -1,5 +1,2 @@
-pub mod Tests
-pub mod Refusal
 pub mod Begin
-pub mod FormSaved
-pub mod FormWaits
+pub mod Turn

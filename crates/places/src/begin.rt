@@ -1,7 +1,6 @@
 //! The call codes, and the first place of each call.
 ghost use mathlib.Core.Path.{_≡_};
 ghost use Rattle.places.specs.Begin.{codeOf, started, startedArray, firstSection, startedZero, unlimited};
-use crate::place::Flavour;
 use crate::place::Place;
 use array::call::ArrayCall;
 use array::call::IsEmptyPlace;
@@ -9,6 +8,7 @@ use array::call::IsFullPlace;
 use array::call::LenPlace;
 use array::call::ReceivePlace;
 use array::call::SendPlace;
+use bounds::flavour::Flavour;
 use channel::answer::Tick;
 use zero::call::Limit;
 use zero::call::Offer;

@@ -1,6 +1,4 @@
-//! Where a thread stands, how a call begins, and the form of what a record holds, piece by piece; the refusals.
+//! Where a thread stands, and how its call begins, goes on and is taken.
 pub mod begin;
 pub mod place;
-pub mod refusal;
-pub mod saved;
-pub mod waits;
+pub mod turn;

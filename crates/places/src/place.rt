@@ -3,12 +3,6 @@ use array::call::ArrayCall;
 use channel::answer::Answer;
 use zero::call::ZeroCall;
 
-/// Which channel a record holds.
-pub enum Flavour {
-    Zero,
-    Array,
-}
-
 /// Where a thread stands: idle, in its call with what that call has saved, or with an answer not taken.
 pub enum Place {
     Idle,

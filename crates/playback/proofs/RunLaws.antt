@@ -9,8 +9,8 @@ use lib.Dec.{ltb}
 use lib.ListN.{length, drop, length-append, length-drop}
 use borrow.Author.Tests.{lt-ltb, le-ltb}
 use Rattle.waker.specs.Choice.{if_then_else_}
-use Rattle.places.specs.declared.refusal.Refusal.the-variants.{TooLong}
-use Rattle.places.specs.declared.refusal.Reply.the-variants.{Refused}
+use Rattle.bounds.specs.declared.refusal.Refusal.the-variants.{TooLong}
+use Rattle.bounds.specs.declared.refusal.Reply.the-variants.{Refused}
 use Rattle.text.specs.Lines.{linesOf, lineOf}
 use Rattle.text.specs.Frames.{parseOf}
 use Rattle.text.specs.Output.{Put, pasted}

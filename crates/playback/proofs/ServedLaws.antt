@@ -9,27 +9,24 @@ use lib.ListN.{length, getD, take, drop, length-drop}
 use borrow.Author.Tests.{eqb-true, eq-eqb, ne-eqb}
 use Rattle.waker.specs.Choice.{if_then_else_}
 use Rattle.waker.specs.Context.{thread}
-use Rattle.waker.specs.declared.context.Thread.{Thread}
 use Rattle.channel.specs.Answer.{kindOf, valueOf}
 use Rattle.channel.specs.declared.answer.Answer.{Answer}
-use Rattle.channel.specs.declared.answer.Tick.{Tick}
-use Rattle.places.specs.Refusal.{numberOf}
-use Rattle.schedule.specs.Record.{placeOf, refusedWith}
+use Rattle.bounds.specs.Limits.{making}
+use Rattle.bounds.specs.Refusal.{numberOf}
+use Rattle.bounds.specs.declared.flavour.Flavour.the-variants.{Zero, Array}
+use Rattle.bounds.specs.declared.limits.Verdict.{Verdict}
+use Rattle.bounds.specs.declared.limits.Verdict.the-variants.{Allowed, Refused}
+use Rattle.bounds.specs.declared.refusal.Refusal.{Refusal}
+use Rattle.bounds.specs.declared.refusal.Refusal.the-variants as refusal
+use Rattle.bounds.specs.declared.refusal.Reply.{Reply}
+use Rattle.bounds.specs.declared.refusal.Reply.the-variants as reply
+use Rattle.schedule.specs.Record.{refusedWith}
 use Rattle.schedule.specs.Record as schedule
-use Rattle.schedule.specs.Making.{zeroRecord, madeFor, madeArray, madeZero}
-use Rattle.places.specs.Begin.{started}
-use Rattle.schedule.specs.Calls.{formed, startedOn, begunAt, begunInForm, begun, steppedAt, steppedInForm, stepped, advancedInForm, advanced, taken}
+use Rattle.schedule.specs.Making.{zeroRecord, freshArrayRecord, freshZeroRecord, made, madeArray, madeZero}
+use Rattle.schedule.specs.Calls.{formed}
 use Rattle.schedule.specs.History.{Act, begins, steps, advances, takes, actOn, after, Fresh, fresh-array, fresh-zero}
-use Rattle.places.specs.declared.begin.Start.{Start}
-use Rattle.places.specs.declared.begin.Start.the-variants.{None, At}
-use Rattle.places.specs.declared.place.Place.{Place}
-use Rattle.places.specs.declared.place.Place.the-variants.{Idle, Array, Zero, Done}
 use Rattle.schedule.specs.declared.record.Record.{Record}
 use Rattle.schedule.specs.declared.record.Replied.{Replied}
-use Rattle.places.specs.declared.refusal.Refusal.{Refusal}
-use Rattle.places.specs.declared.refusal.Refusal.the-variants as refusal
-use Rattle.places.specs.declared.refusal.Reply.{Reply}
-use Rattle.places.specs.declared.refusal.Reply.the-variants as reply
 use Rattle.text.specs.Hex.{hexOf}
 use Rattle.text.specs.Frames.{given, headerOf, beginOf, stepOf, advanceOf, takeOf, formOf, parseOf}
 use Rattle.text.specs.Output.{codeLine, tookLine, Put}
@@ -38,6 +35,7 @@ use Rattle.text.specs.declared.hex.Number.the-variants as number
 use Rattle.text.specs.declared.frame.Frame.{Frame}
 use Rattle.text.specs.declared.frame.Frame.the-variants.{Header, Begin, Step, Advance, Take, Malformed}
 use Rattle.grown.proofs.Tests.{clash}
+use Rattle.grown.proofs.Acts.{every-reply}
 use Rattle.grown.proofs.Grown.{grown-in-form}
 use Rattle.playback.specs.Served.{nothingMade, refusedBy, keptBy, acceptedAs, makingOf, headedBy, onceMade, servedFor, replyLine, Standing}
 use Rattle.playback.specs.declared.held.Held.{Held}
@@ -85,35 +83,18 @@ module _ (h : Held) (g : GrownHeld h) where
 abbrev Plain : Replied → Type 0
 Plain y = acceptedAs (y .reply) ≡ true → y ≡ schedule.acceptedAs (y .next)
 
-plain-if : (b : Bool) (x y : Replied) → Plain x → Plain y → Plain (if b then x else y)
-unfolding if_then_else_
-plain-if true x y p q = p
-plain-if false x y p q = q
-
-plain-refused : (r : Record) (n : Refusal) → Plain (refusedWith r n)
-plain-refused r n e = never e
-
-plain-for : (n : ℕ) (r : Record) → Plain (madeFor n r)
-plain-for n r =
-    plain-if _ _ _ (plain-refused _ _) (plain-if _ _ _ (plain-refused _ _) (λ e. refl))
-
-plain-array : (c n : ℕ) → Plain (madeArray c n)
-unfolding madeArray
-plain-array c n =
-    plain-if _ _ _ (plain-refused _ _) (plain-if _ _ _ (plain-refused _ _) (plain-for n _))
-
-plain-zero : (n : ℕ) → Plain (madeZero n)
-unfolding madeZero
-plain-zero n = plain-for n _
+plain : (v : Verdict) (r : Record) → Plain (made v r)
+plain Allowed r e = refl
+plain (Refused n) r e = never e
 
 fresh-making : (c n : ℕ) → acceptedAs (makingOf c n .reply) ≡ true → Fresh (makingOf c n .next)
-unfolding makingOf if_then_else_
+unfolding makingOf madeArray madeZero if_then_else_
 fresh-making c n = go (eqb c 0)
   where
     go : (b : Bool) → acceptedAs ((if b then madeZero n else madeArray c n) .reply) ≡ true →
         Fresh ((if b then madeZero n else madeArray c n) .next)
-    go true e = fresh-zero n (plain-zero n e)
-    go false e = fresh-array c n (plain-array c n e)
+    go true e = fresh-zero n (plain (making Zero 0 n) (freshZeroRecord n) e)
+    go false e = fresh-array c n (plain (making Array c n) (freshArrayRecord c n) e)
 
 -- An accepted header starts anew.
 module _ (h : Held) (g : GrownHeld h) where
@@ -154,42 +135,35 @@ longServed s = length (replyLine (s .reply))
 
 making-long : (c n : ℕ) → long (makingOf c n) ≤ 3
 unfolding makingOf madeArray madeZero
-making-long c n =
-    both long 3 _ _ _ (for-long _)
-    (both long 3 _ _ _ (lit≤ tt) (both long 3 _ _ _ (lit≤ tt) (for-long _)))
+making-long c n = both long 3 _ _ _ (made-long (making Zero 0 n) _) (made-long (making Array c n) _)
   where
-    for-long : (r : Record) → long (madeFor n r) ≤ 3
-    for-long r = both long 3 _ _ _ (lit≤ tt) (both long 3 _ _ _ (lit≤ tt) (lit≤ tt))
+    made-long : (v : Verdict) (r : Record) → long (made v r) ≤ 3
+    made-long Allowed r = lit≤ tt
+    made-long (Refused m) r = lit≤ tt
 
-begun-long : (r : Record) (t : Thread) (c m : ℕ) (d : Tick) → long (begun r t c m d) ≤ 3
-unfolding begun begunInForm
-begun-long r t c m d =
-    both long 3 _ _ _ (both long 3 _ _ _ (lit≤ tt) (at-place (placeOf r (t .0)) (started (r .flavour) c m d))) (lit≤ tt)
+abbrev roomFor : Act → ℕ
+roomFor (begins t c m d) = 3
+roomFor (steps t) = 3
+roomFor (advances n) = 3
+roomFor (takes t) = 13
+
+call-long : (r : Record) (a : Act) → long (actOn r a) ≤ roomFor a
+call-long r =
+    every-reply r (λ a y. long y ≤ roomFor a)
+    (record {
+      refuse = refused;
+      begin = λ t c m d p l e f. lit≤ tt;
+      array = λ t k l few e. lit≤ tt;
+      zero = λ t k l few e. lit≤ tt;
+      advance = λ n l. lit≤ tt;
+      take = λ t a l e. lit≤ tt;
+    })
   where
-    on-start : (s : Start) → long (startedOn r (t .0) s) ≤ 3
-    on-start None = lit≤ tt
-    on-start (At p) = lit≤ tt
-
-    at-place : (p : Place) (s : Start) → long (begunAt r (t .0) p s) ≤ 3
-    at-place Idle s = on-start s
-    at-place (Array k) s = lit≤ tt
-    at-place (Zero k) s = lit≤ tt
-    at-place (Done a) s = lit≤ tt
-
-stepped-long : (r : Record) (t : Thread) → long (stepped r t) ≤ 3
-unfolding stepped steppedInForm
-stepped-long r t =
-    both long 3 _ _ _ (both long 3 _ _ _ (lit≤ tt) (at-place (placeOf r (t .0)))) (lit≤ tt)
-  where
-    at-place : (p : Place) → long (steppedAt r t p) ≤ 3
-    at-place Idle = lit≤ tt
-    at-place (Array k) = both long 3 _ _ _ (lit≤ tt) (lit≤ tt)
-    at-place (Zero k) = both long 3 _ _ _ (lit≤ tt) (lit≤ tt)
-    at-place (Done a) = lit≤ tt
-
-advanced-long : (r : Record) (n : Tick) → long (advanced r n) ≤ 3
-unfolding advanced advancedInForm
-advanced-long r n = both long 3 _ _ _ (both long 3 _ _ _ (lit≤ tt) (lit≤ tt)) (lit≤ tt)
+    refused : (a : Act) (n : Refusal) → long (refusedWith r n) ≤ roomFor a
+    refused (begins t c m d) n = lit≤ tt
+    refused (steps t) n = lit≤ tt
+    refused (advances k) n = lit≤ tt
+    refused (takes t) n = lit≤ tt
 
 -- Four bytes spell a take.
 abbrev taking : Frame → ℕ
@@ -243,13 +217,13 @@ served-long : (h : Held) (f : Frame) (n : ℕ) → taking f ≤ n - 2 + 2 → lo
 unfolding servedFor
 served-long h (Header c k) n e = both longServed (3 * (n + 1)) (h .made) _ _ (omega arith) (omega (arith, making-long c k))
 served-long h (Begin t c m d) n e =
-    both longServed (3 * (n + 1)) (h .made) _ _ (omega (arith, begun-long (h .channel) t c m d)) (omega arith)
+    both longServed (3 * (n + 1)) (h .made) _ _ (omega (arith, call-long (h .channel) (begins t c m d))) (omega arith)
 served-long h (Step t) n e =
-    both longServed (3 * (n + 1)) (h .made) _ _ (omega (arith, stepped-long (h .channel) t)) (omega arith)
+    both longServed (3 * (n + 1)) (h .made) _ _ (omega (arith, call-long (h .channel) (steps t))) (omega arith)
 served-long h (Advance k) n e =
-    both longServed (3 * (n + 1)) (h .made) _ _ (omega (arith, advanced-long (h .channel) k)) (omega arith)
+    both longServed (3 * (n + 1)) (h .made) _ _ (omega (arith, call-long (h .channel) (advances k))) (omega arith)
 served-long h (Take t) n e =
-    both longServed (3 * (n + 1)) (h .made) _ _ (omega (arith, line-room (taken (h .channel) t .reply))) (omega arith)
+    both longServed (3 * (n + 1)) (h .made) _ _ (omega (arith, call-long (h .channel) (takes t))) (omega arith)
 served-long h Malformed n e = omega arith
 
 -- The output line of a line is at most three times as long as the line with its 0a.

@@ -3,7 +3,7 @@ use Prim.Native.Nat.{ℕ, _+_, _≤_}
 use mathlib.Core.List.{List}
 use native.Mathlib.Omega.{arith}
 use lib.ListN.{length, length-append}
-use Rattle.places.specs.declared.refusal.Reply.{Reply}
+use Rattle.bounds.specs.declared.refusal.Reply.{Reply}
 use Rattle.text.specs.Output.{Put}
 use Rattle.text.proofs.PasteLaws.{put-put, put-length}
 use Rattle.saved.specs.Line.{lineLength, recordLine}

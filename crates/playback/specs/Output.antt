@@ -5,8 +5,8 @@ use mathlib.Core.List.{List, [], _∷_, _++_}
 use lib.Dec.{ltb}
 use lib.ListN.{length, drop}
 use Rattle.waker.specs.Choice.{if_then_else_}
-use Rattle.places.specs.declared.refusal.Refusal.the-variants.{TooLong}
-use Rattle.places.specs.declared.refusal.Reply.the-variants.{Refused}
+use Rattle.bounds.specs.declared.refusal.Refusal.the-variants.{TooLong}
+use Rattle.bounds.specs.declared.refusal.Reply.the-variants.{Refused}
 use Rattle.text.specs.Lines.{linesOf}
 use Rattle.text.specs.Frames.{parseOf}
 use Rattle.playback.specs.Served.{nothingMade, servedFor, replyLine}

@@ -6,15 +6,15 @@ use mathlib.Core.List.{List}
 use lib.Dec.{eqb}
 use Rattle.waker.specs.Choice.{if_then_else_}
 use Rattle.channel.specs.Answer.{kindOf, valueOf}
-use Rattle.places.specs.Refusal.{numberOf}
+use Rattle.bounds.specs.Refusal.{numberOf}
 use Rattle.schedule.specs.Making.{zeroRecord, madeArray, madeZero}
 use Rattle.schedule.specs.Form.{InForm}
 use Rattle.schedule.specs.Calls.{begun, stepped, advanced, taken}
 use Rattle.schedule.specs.declared.record.Replied.{Replied}
-use Rattle.places.specs.declared.refusal.Refusal.{Refusal}
-use Rattle.places.specs.declared.refusal.Refusal.the-variants as refusal
-use Rattle.places.specs.declared.refusal.Reply.{Reply}
-use Rattle.places.specs.declared.refusal.Reply.the-variants.{Done, Took, Refused}
+use Rattle.bounds.specs.declared.refusal.Refusal.{Refusal}
+use Rattle.bounds.specs.declared.refusal.Refusal.the-variants as refusal
+use Rattle.bounds.specs.declared.refusal.Reply.{Reply}
+use Rattle.bounds.specs.declared.refusal.Reply.the-variants.{Done, Took, Refused}
 use Rattle.text.specs.Output.{codeLine, tookLine}
 use Rattle.text.specs.declared.frame.Frame.{Frame}
 use Rattle.text.specs.declared.frame.Frame.the-variants.{Header, Begin, Step, Advance, Take, Malformed}

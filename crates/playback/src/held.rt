@@ -1,9 +1,8 @@
 //! The channel that a text has made so far, and the answer to one frame.
 ghost use mathlib.Core.Path.{_≡_};
 ghost use Rattle.playback.specs.Served.{nothingMade, refusedBy, acceptedAs, headedBy, keptBy, makingOf, servedFor, Standing};
-use channel::answer::Tick;
-use places::refusal::Refusal;
-use places::refusal::Reply;
+use bounds::refusal::Refusal;
+use bounds::refusal::Reply;
 use schedule::record::Record;
 use schedule::record::Replied;
 use text::frame::Frame;

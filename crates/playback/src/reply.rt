@@ -3,7 +3,7 @@ ghost use Prim.Native.Nat.{_+_, _≤_};
 ghost use lib.ListN.{length};
 ghost use Rattle.text.specs.Output.{Put};
 ghost use Rattle.playback.specs.Served.{replyLine};
-use places::refusal::Reply;
+use bounds::refusal::Reply;
 use text::output;
 
 /// Writes the line of a reply at `at`, and says where it ends.

@@ -1,5 +1,4 @@
 //! The replay of a whole text into a lent buffer.
-ghost use mathlib.Core.Path.{_≡_};
 ghost use Prim.Native.Nat.{_+_, _*_, _≤_};
 ghost use lib.ListN.{length};
 ghost use Rattle.text.specs.Lines.{linesOf};
@@ -8,8 +7,8 @@ ghost use Rattle.playback.specs.Served.{nothingMade};
 ghost use Rattle.playback.specs.Output.{repliesTo, Replayed};
 use crate::held::Held;
 use crate::reply;
-use places::refusal::Refusal;
-use places::refusal::Reply;
+use bounds::refusal::Refusal;
+use bounds::refusal::Reply;
 use text::frame;
 use text::lines;
 

@@ -1,6 +1,6 @@
 //! A history of public calls under test: the record, and whether it has shown what was expected so far.
+use bounds::refusal::Reply;
 use channel::answer::Tick;
-use places::refusal::Reply;
 use saved::fields;
 use saved::fields::FIELDS;
 use schedule::record::Record;

@@ -12,8 +12,8 @@ use Rattle.waker.specs.declared.waker.Waker.{Waker}
 use Rattle.channel.specs.Position.{at}
 use Rattle.zero.specs.Zero.{packetAt}
 use Rattle.schedule.specs.Record.{placeOf}
-use Rattle.places.specs.declared.place.Flavour.{Flavour}
-use Rattle.places.specs.declared.place.Flavour.the-variants as flavour
+use Rattle.bounds.specs.declared.flavour.Flavour.{Flavour}
+use Rattle.bounds.specs.declared.flavour.Flavour.the-variants as flavour
 use Rattle.schedule.specs.declared.record.Record.{Record}
 use Rattle.saved.specs.Place.{placeNumbers}
 

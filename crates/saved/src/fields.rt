@@ -4,7 +4,7 @@ ghost use Prim.Native.Nat.{_<_};
 ghost use Rattle.waker.specs.Context.{threads};
 ghost use Rattle.saved.specs.Fields.{fieldCount, bit, flavourNumber, wordNumber, headField, threadField, queueField, fieldOf};
 use crate::place;
-use places::place::Flavour;
+use bounds::flavour::Flavour;
 use schedule::record::Record;
 use waker::context::Selected;
 use waker::waker::Waker;

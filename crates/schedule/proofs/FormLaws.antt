@@ -12,17 +12,17 @@ use Rattle.zero.specs.Zero.{packetAt}
 use Rattle.channel.specs.PositionBounds.{Sized}
 use Rattle.array.specs.declared.Array.{Array}
 use Rattle.channel.specs.declared.position.Shape.{Shape}
-use Rattle.places.specs.Tests.{not}
-use Rattle.places.specs.FormSaved.{shapeInForm, slotInForm, Measured}
-use Rattle.places.specs.FormWaits.{waitInForm, queueInForm}
+use Rattle.bounds.specs.Tests.{not}
+use Rattle.forms.specs.FormSaved.{shapeInForm, slotInForm, Measured}
+use Rattle.forms.specs.FormWaits.{waitInForm, queueInForm}
 use Rattle.schedule.specs.Record.{placeOf}
 use Rattle.schedule.specs.Form.{arrayInForm, zeroInForm, flavouredInForm, flavourInForm, queuesInForm, counted, placeInForm, partnerInForm, standsInForm, threadInForm, Shaped, Short}
-use Rattle.places.specs.declared.place.Flavour.{Flavour}
-use Rattle.places.specs.declared.place.Flavour.the-variants as flavour
+use Rattle.bounds.specs.declared.flavour.Flavour.{Flavour}
+use Rattle.bounds.specs.declared.flavour.Flavour.the-variants as flavour
 use Rattle.schedule.specs.declared.record.Record.{Record}
-use Rattle.places.proofs.TestLaws.{and-left, and-right, and-stops, and-goes}
-use Rattle.places.proofs.FormSavedLaws.{shaped}
-use Rattle.places.proofs.FormWaitsLaws.{queue-low}
+use Rattle.bounds.proofs.TestLaws.{and-left, and-right, and-stops, and-goes}
+use Rattle.forms.proofs.FormSavedLaws.{shaped}
+use Rattle.forms.proofs.FormWaitsLaws.{queue-low}
 
 -- The walk of `slots_in_form`.
 abbrev pub slotAt : Shape → Array → ℕ → Bool

@@ -4,7 +4,7 @@ use mathlib.Core.Path.{_≡_, refl, sym, subst, _∙_}
 use mathlib.Core.Bool.{Bool, true, false}
 use mathlib.Core.List.{_++_}
 use native.Mathlib.Omega.{arith}
-use lib.Dec.{ltb}
+use lib.Dec.{ltb, leb}
 use lib.ListN.{length, getD, drop, replicate, take-append-drop, length-drop, length-replicate, getD-replicate, List·getD-eq-default}
 use lib.Seq.{ext-getD, getD-take, getD-drop, length-take-le}
 use borrow.Author.Tests.{eqb-true, ltb-true, ltb-false, leb-true, lt-ltb, le-ltb}
@@ -34,20 +34,21 @@ use Rattle.array.specs.declared.call.ArrayCall.{ArrayCall}
 use Rattle.array.specs.declared.call.ArrayCall.the-variants as call
 use Rattle.zero.specs.declared.call.ZeroCall.{ZeroCall}
 use Rattle.zero.specs.declared.call.ZeroCall.the-variants.{First, Put, PutReady, Take, TakeReady, Wait, ReadyWait, Leave, Ask}
-use Rattle.places.specs.Tests.{_and_}
+use Rattle.bounds.specs.Limits.{boundsHold}
+use Rattle.bounds.specs.Tests.{_and_}
 use Rattle.schedule.specs.Record.{placeOf}
-use Rattle.places.specs.FormSaved.{tailInForm, wordInForm, slotInForm, sendInForm, receiveInForm, lenInForm, savedInForm}
-use Rattle.places.specs.FormWaits.{isPicked, queuedAt, standsOn, timesIn, entryInForm, queueInForm}
-use Rattle.schedule.specs.Form.{clockLimit, boundsHold, arrayInForm, flavouredInForm, flavourInForm, slotsInForm, queuesInForm, placeInForm, namedInForm, partnerInForm, standsInForm, threadInForm, threadsInForm, inForm, InForm}
-use Rattle.places.specs.declared.waits.Partner.the-variants.{Of}
-use Rattle.places.specs.declared.place.Flavour.{Flavour}
-use Rattle.places.specs.declared.place.Flavour.the-variants as flavour
+use Rattle.forms.specs.FormSaved.{tailInForm, wordInForm, slotInForm, sendInForm, receiveInForm, lenInForm, savedInForm}
+use Rattle.forms.specs.FormWaits.{isPicked, queuedAt, standsOn, timesIn, entryInForm, queueInForm}
+use Rattle.schedule.specs.Form.{arrayInForm, flavouredInForm, flavourInForm, slotsInForm, queuesInForm, placeInForm, namedInForm, partnerInForm, standsInForm, threadInForm, threadsInForm, inForm, InForm}
+use Rattle.forms.specs.declared.waits.Partner.the-variants.{Of}
+use Rattle.bounds.specs.declared.flavour.Flavour.{Flavour}
+use Rattle.bounds.specs.declared.flavour.Flavour.the-variants as flavour
 use Rattle.places.specs.declared.place.Place.{Place}
 use Rattle.places.specs.declared.place.Place.the-variants.{Array, Zero}
 use Rattle.schedule.specs.declared.record.Record.{Record}
-use Rattle.places.proofs.TestLaws.{and-left, and-right, either-way, all-at}
-use Rattle.places.proofs.TimesLaws.{room}
-use Rattle.places.proofs.FormSavedLaws.{shaped}
+use Rattle.bounds.proofs.TestLaws.{and-left, and-right, either-way, all-at}
+use Rattle.forms.proofs.TimesLaws.{room}
+use Rattle.forms.proofs.FormSavedLaws.{shaped}
 
 -- Words in form are small and name a slot.
 module _ (S : Shape) where
@@ -168,7 +169,7 @@ named-low : (r : Record) (t : ℕ) (σ : Side) (v : Thread) → namedInForm r t 
 named-low r t σ v p = ltb-true _ _ (and-left _ _ p)
 
 module _ (r : Record) (h : InForm r) where
-  bounds : boundsHold r ≡ true
+  bounds : boundsHold (r .count) (r .steps) (r .clock) ≡ true
   unfolding inForm
   bounds = and-left _ _ h
 
@@ -189,12 +190,7 @@ module _ (r : Record) (h : InForm r) where
   thread-at = all-at threads (threadInForm r) (and-right _ _ (and-right _ _ (and-right _ _ (and-right _ _ h))))
 
   pub count-low : r .count ≤ threads
-  unfolding boundsHold
-  count-low = leb-true _ _ (and-left _ _ (and-right _ _ bounds))
-
-  pub clock-low : r .clock .0 ≤ clockLimit
-  unfolding boundsHold
-  clock-low = leb-true _ _ (and-right _ _ (and-right _ _ (and-right _ _ bounds)))
+  count-low = leb-true _ _ (and-right (leb 1 (r .count)) _ (and-left _ _ bounds))
 
   pub thread-low : (t : ℕ) → t < r .count → t < threads
   thread-low t k = omega (arith, count-low)

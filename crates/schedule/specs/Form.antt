@@ -3,7 +3,7 @@ use Prim.Native.Nat.{ℕ, _≤_}
 use mathlib.Core.Path.{_≡_}
 use mathlib.Core.Bool.{Bool, true, false}
 use lib.ListN.{getD}
-use lib.Dec.{eqb, ltb, leb}
+use lib.Dec.{eqb, ltb}
 use Rattle.waker.specs.Choice.{if_then_else_}
 use Rattle.waker.specs.Context.{threads, thread}
 use Rattle.waker.specs.Wakers.{listed, wordOf}
@@ -12,29 +12,18 @@ use Rattle.channel.specs.Position.{slots, at}
 use Rattle.zero.specs.Zero.{packetAt}
 use Rattle.channel.specs.PositionBounds.{Sized}
 use Rattle.channel.specs.declared.position.Shape.{Shape}
-use Rattle.places.specs.Tests.{_and_, not, allBelow}
+use Rattle.bounds.specs.Limits.{boundsHold}
+use Rattle.bounds.specs.Tests.{_and_, not, allBelow}
 use Rattle.schedule.specs.Record.{placeOf}
-use Rattle.places.specs.FormSaved.{shapeInForm, tailInForm, wordInForm, slotInForm, savedInForm}
-use Rattle.places.specs.FormWaits.{isPicked, waitInForm, standsOn, awaits, partnerOf, timesIn, queueInForm}
-use Rattle.places.specs.declared.waits.Partner.{Partner}
-use Rattle.places.specs.declared.waits.Partner.the-variants.{None, Of}
-use Rattle.places.specs.declared.place.Flavour.{Flavour}
-use Rattle.places.specs.declared.place.Flavour.the-variants as flavour
+use Rattle.forms.specs.FormSaved.{shapeInForm, tailInForm, wordInForm, slotInForm, savedInForm}
+use Rattle.forms.specs.FormWaits.{isPicked, waitInForm, standsOn, awaits, partnerOf, timesIn, queueInForm}
+use Rattle.forms.specs.declared.waits.Partner.{Partner}
+use Rattle.forms.specs.declared.waits.Partner.the-variants.{None, Of}
+use Rattle.bounds.specs.declared.flavour.Flavour.{Flavour}
+use Rattle.bounds.specs.declared.flavour.Flavour.the-variants as flavour
 use Rattle.places.specs.declared.place.Place.{Place}
 use Rattle.places.specs.declared.place.Place.the-variants.{Idle, Array, Zero, Done}
 use Rattle.schedule.specs.declared.record.Record.{Record}
-
--- 1,000,000 steps a record; the clock is at most fffffffe.
-abbrev pub stepLimit : ℕ
-stepLimit = 1_000_000
-
-abbrev pub clockLimit : ℕ
-clockLimit = 0xffff_fffe
-
--- These bounds hold: threads 1 to 8, the steps, and the clock.
-unfoldable pub boundsHold : Record → Bool
-boundsHold r =
-    not (eqb (r .count) 0) and leb (r .count) threads and leb (r .steps) stepLimit and leb (r .clock .0) clockLimit
 
 -- On an array, the flag is clear, mark and lap fit the capacity, and head and tail are in form.
 unfoldable pub arrayInForm : Record → Bool
@@ -118,7 +107,7 @@ module _ (r : Record) where
   threadsInForm = allBelow threads threadInForm
 
   unfoldable pub inForm : Bool
-  inForm = boundsHold r and flavourInForm r and slotsInForm r and queuesInForm r and threadsInForm
+  inForm = boundsHold (r .count) (r .steps) (r .clock) and flavourInForm r and slotsInForm r and queuesInForm r and threadsInForm
 
 -- The record is in form.
 abbrev pub InForm : Record → Type 0

@@ -11,8 +11,8 @@ use Rattle.schedule.specs.Making.{madeArray, madeZero}
 use Rattle.schedule.specs.Calls.{begun, stepped, advanced, taken}
 use Rattle.schedule.specs.declared.record.Record.{Record}
 use Rattle.schedule.specs.declared.record.Replied.{Replied}
-use Rattle.places.specs.declared.refusal.Reply.{Reply}
-use Rattle.places.specs.declared.refusal.Reply.the-variants.{Done, Took, Refused}
+use Rattle.bounds.specs.declared.refusal.Reply.{Reply}
+use Rattle.bounds.specs.declared.refusal.Reply.the-variants.{Done, Took, Refused}
 
 -- A public call with its numbers.
 pub data Act : Type 0 where

@@ -10,12 +10,14 @@ use Rattle.zero.specs.declared.outcome.ZeroNext.{ZeroNext}
 use Rattle.zero.specs.declared.outcome.ZeroNext.the-variants as zero
 use Rattle.places.specs.declared.place.Place.{Place}
 use Rattle.places.specs.declared.place.Place.the-variants.{Idle, Array, Zero, Done}
+use Rattle.places.specs.declared.turn.Turn.{Turn}
+use Rattle.places.specs.declared.turn.Turn.the-variants.{Refused, Stands}
 use Rattle.schedule.specs.declared.record.ThreadRecord.{ThreadRecord}
 use Rattle.schedule.specs.declared.record.Record.{Record}
 use Rattle.schedule.specs.declared.record.Replied.{Replied}
-use Rattle.places.specs.declared.refusal.Refusal.{Refusal}
-use Rattle.places.specs.declared.refusal.Reply.{Reply}
-use Rattle.places.specs.declared.refusal.Reply.the-variants as reply
+use Rattle.bounds.specs.declared.refusal.Refusal.{Refusal}
+use Rattle.bounds.specs.declared.refusal.Reply.{Reply}
+use Rattle.bounds.specs.declared.refusal.Reply.the-variants as reply
 
 abbrev pub threadAt : Place → ThreadRecord
 threadAt p = record { place = p }
@@ -100,3 +102,8 @@ refusedWith r n = replied r (reply.Refused n)
 
 abbrev pub acceptedAs : Record → Replied
 acceptedAs r = replied r reply.Done
+
+-- What a turn of a thread leaves.
+abbrev pub turnedBy : Record → ℕ → Turn → Replied
+turnedBy r t (Refused n) = refusedWith r n
+turnedBy r t (Stands p y) = replied (withThread r t p) y

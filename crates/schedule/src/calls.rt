@@ -4,19 +4,15 @@ ghost use Rattle.schedule.specs.Form.{InForm};
 ghost use Rattle.schedule.specs.Calls.{begun, begunInForm, stepped, steppedInForm, advanced, advancedInForm, taken, takenInForm};
 use crate::record::Record;
 use crate::record::Replied;
+use bounds::limits;
+use bounds::limits::Clock;
+use bounds::refusal::Refusal;
+use bounds::refusal::Reply;
 use channel::answer::Tick;
 use places::begin;
-use places::begin::Start;
-use places::place::Place;
-use places::refusal::Refusal;
-use places::refusal::Reply;
+use places::turn;
+use places::turn::Running;
 use waker::context::Thread;
-
-/// How many steps a record may make.
-pub const STEP_LIMIT: u32 = 1_000_000;
-
-/// The last tick of the clock.
-pub const CLOCK_LIMIT: u32 = 0xffff_fffe;
 
 impl Record {
     /// Begin on a record in form.
@@ -28,23 +24,9 @@ impl Record {
             return self.refused(Refusal::NoSuchThread);
         }
         let at = thread.0 as usize;
-        let place = self.place(at);
-        match place {
-            Place::Idle => {
-                let flavour = self.flavour;
-                let start = begin::start_on(flavour, code, message, deadline);
-                match start {
-                    Start::None => self.refused(Refusal::UnknownCall),
-                    Start::At(first) => Replied {
-                        next: self.with_thread(at, first),
-                        reply: Reply::Done,
-                    },
-                }
-            }
-            Place::Array(_) => self.refused(Refusal::NotIdle),
-            Place::Zero(_) => self.refused(Refusal::NotIdle),
-            Place::Done(_) => self.refused(Refusal::NotIdle),
-        }
+        let flavour = self.flavour;
+        let start = begin::start_on(flavour, code, message, deadline);
+        self.turned(at, turn::begin(self.place(at), start))
     }
 
     /// Begins a call on a thread.
@@ -66,34 +48,25 @@ impl Record {
             return self.refused(Refusal::NoSuchThread);
         }
         let at = thread.0 as usize;
-        let place = self.place(at);
-        match place {
-            Place::Idle => self.refused(Refusal::NotRunning),
-            Place::Array(call) => {
-                if STEP_LIMIT <= self.steps {
-                    return self.refused(Refusal::StepLimit);
-                }
+        let running = turn::step(self.place(at), self.steps);
+        match running {
+            Running::Refused(refusal) => self.refused(refusal),
+            Running::Array(call) => {
                 let array = self.array;
                 let shape = self.shape;
-                let stepped = array.step(shape, call);
                 Replied {
-                    next: self.after_array(at, stepped),
+                    next: self.after_array(at, array.step(shape, call)),
                     reply: Reply::Done,
                 }
             }
-            Place::Zero(call) => {
-                if STEP_LIMIT <= self.steps {
-                    return self.refused(Refusal::StepLimit);
-                }
+            Running::Zero(call) => {
                 let zero = self.zero;
                 let clock = self.clock;
-                let stepped = zero.step(thread, clock, call);
                 Replied {
-                    next: self.after_zero(at, stepped),
+                    next: self.after_zero(at, zero.step(thread, clock, call)),
                     reply: Reply::Done,
                 }
             }
-            Place::Done(_) => self.refused(Refusal::NotRunning),
         }
     }
 
@@ -109,18 +82,19 @@ impl Record {
 
     /// Advance on a record in form.
     pub fn advance_in_form(mut self, ticks: Tick) -> Replied
-        requires { ⌜ InForm self ⌝ }
         ensures { λ r. ⌜ r ≡ advancedInForm self ticks ⌝ }
     {
         let clock = self.clock;
-        if CLOCK_LIMIT - clock.0 < ticks.0 {
-            return self.refused(Refusal::ClockLimit);
-        }
-        let later = Tick(clock.0 + ticks.0);
-        self.clock = later;
-        Replied {
-            next: self,
-            reply: Reply::Done,
+        let later = limits::later(clock, ticks);
+        match later {
+            Clock::At(tick) => {
+                self.clock = tick;
+                Replied {
+                    next: self,
+                    reply: Reply::Done,
+                }
+            }
+            Clock::Refused(refusal) => self.refused(refusal),
         }
     }
 
@@ -143,16 +117,7 @@ impl Record {
             return self.refused(Refusal::NoSuchThread);
         }
         let at = thread.0 as usize;
-        let place = self.place(at);
-        match place {
-            Place::Idle => self.refused(Refusal::NoAnswer),
-            Place::Array(_) => self.refused(Refusal::NoAnswer),
-            Place::Zero(_) => self.refused(Refusal::NoAnswer),
-            Place::Done(answer) => Replied {
-                next: self.with_thread(at, Place::Idle),
-                reply: Reply::Took(answer),
-            },
-        }
+        self.turned(at, turn::take(self.place(at)))
     }
 
     /// Takes a thread's answer, which frees the thread.

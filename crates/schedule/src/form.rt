@@ -2,18 +2,17 @@
 ghost use mathlib.Core.Path.{_≡_};
 ghost use Prim.Native.Nat.{_<_};
 ghost use Rattle.waker.specs.Context.{threads};
-ghost use Rattle.places.specs.FormSaved.{Measured};
-ghost use Rattle.schedule.specs.Form.{boundsHold, arrayInForm, zeroInForm, flavourInForm, slotsInForm, queuesInForm, isIdle, counted, placeInForm, partnerInForm, standsInForm, threadInForm, threadsInForm, inForm, Shaped, Short};
-use crate::calls::CLOCK_LIMIT;
-use crate::calls::STEP_LIMIT;
+ghost use Rattle.forms.specs.FormSaved.{Measured};
+ghost use Rattle.schedule.specs.Form.{arrayInForm, zeroInForm, flavourInForm, slotsInForm, queuesInForm, isIdle, counted, placeInForm, partnerInForm, standsInForm, threadInForm, threadsInForm, inForm, Shaped, Short};
 use crate::record::Record;
+use bounds::flavour::Flavour;
+use bounds::limits;
 use channel::position::SLOTS;
 use channel::position::Shape;
-use places::place::Flavour;
+use forms::saved;
+use forms::waits;
+use forms::waits::Partner;
 use places::place::Place;
-use places::saved;
-use places::waits;
-use places::waits::Partner;
 use waker::context::THREADS;
 use waker::context::Thread;
 use waker::wakers::Side;
@@ -62,23 +61,6 @@ fn place_in_form(flavour: Flavour, shape: Shape, place: Place) -> bool
 }
 
 impl Record {
-    /// Threads, steps and clock are within their bounds.
-    fn bounds_hold(self) -> bool
-        ensures { λ r. ⌜ r ≡ boundsHold self ⌝ }
-    {
-        let clock = self.clock;
-        if self.count == 0 {
-            return false;
-        }
-        if (THREADS as u32) < self.count {
-            return false;
-        }
-        if STEP_LIMIT < self.steps {
-            return false;
-        }
-        clock.0 <= CLOCK_LIMIT
-    }
-
     /// On an array: the flag, the shape, head and tail.
     fn array_in_form(self) -> bool
         ensures { λ r. ⌜ r ≡ arrayInForm self ⌝ }
@@ -259,7 +241,8 @@ impl Record {
     pub fn in_form(self) -> bool
         ensures { λ r. ⌜ r ≡ inForm self ⌝ }
     {
-        if !self.bounds_hold() {
+        let clock = self.clock;
+        if !limits::bounds_hold(self.count, self.steps, clock) {
             return false;
         }
         if !self.flavour_in_form() {

@@ -3,18 +3,19 @@ ghost use mathlib.Core.Path.{_≡_};
 ghost use Prim.Native.Nat.{_≤_};
 ghost use Rattle.channel.specs.Position.{slots};
 ghost use Rattle.schedule.specs.Record.{refusedWith};
-ghost use Rattle.schedule.specs.Making.{zeroRecord, freshArrayRecord, freshZeroRecord, madeFor, madeArray, madeZero};
+ghost use Rattle.schedule.specs.Making.{zeroRecord, freshArrayRecord, freshZeroRecord, madeArray, madeZero};
 use crate::record::Record;
 use crate::record::Replied;
 use crate::record::ThreadRecord;
 use array::Array;
+use bounds::flavour::Flavour;
+use bounds::limits;
+use bounds::limits::Verdict;
+use bounds::refusal::Refusal;
+use bounds::refusal::Reply;
 use channel::answer::Tick;
-use channel::position::SLOTS;
 use channel::position::Shape;
-use places::place::Flavour;
 use places::place::Place;
-use places::refusal::Refusal;
-use places::refusal::Reply;
 use waker::context::THREADS;
 use zero::Zero;
 
@@ -71,39 +72,31 @@ impl Record {
         Record::fresh_zero(0).refused(refusal)
     }
 
-    /// The record, where its thread count is one that a record may have.
-    fn made_for(self, count: u32) -> Replied
-        ensures { λ r. ⌜ r ≡ madeFor count self ⌝ }
-    {
-        if count == 0 {
-            return Record::unmade(Refusal::ThreadCount);
-        }
-        if (THREADS as u32) < count {
-            return Record::unmade(Refusal::ThreadCount);
-        }
-        Replied {
-            next: self,
-            reply: Reply::Done,
-        }
-    }
-
     /// Makes an array of a capacity, for a number of threads.
     pub fn make_array(capacity: u64, count: u32) -> Replied
         ensures { λ r. ⌜ r ≡ madeArray capacity count ⌝ }
     {
-        if capacity == 0 {
-            return Record::unmade(Refusal::Capacity);
+        let verdict = limits::making(Flavour::Array, capacity, count);
+        match verdict {
+            Verdict::Allowed => Replied {
+                next: Record::fresh_array(capacity, count),
+                reply: Reply::Done,
+            },
+            Verdict::Refused(refusal) => Record::unmade(refusal),
         }
-        if (SLOTS as u64) < capacity {
-            return Record::unmade(Refusal::Capacity);
-        }
-        Record::fresh_array(capacity, count).made_for(count)
     }
 
     /// Makes a rendezvous for a number of threads.
     pub fn make_zero(count: u32) -> Replied
         ensures { λ r. ⌜ r ≡ madeZero count ⌝ }
     {
-        Record::fresh_zero(count).made_for(count)
+        let verdict = limits::making(Flavour::Zero, 0, count);
+        match verdict {
+            Verdict::Allowed => Replied {
+                next: Record::fresh_zero(count),
+                reply: Reply::Done,
+            },
+            Verdict::Refused(refusal) => Record::unmade(refusal),
+        }
     }
 }

@@ -2,16 +2,17 @@
 ghost use mathlib.Core.Path.{_≡_};
 ghost use Prim.Native.Nat.{_<_};
 ghost use Rattle.waker.specs.Context.{threads};
-ghost use Rattle.schedule.specs.Record.{placeOf, withThread, refusedWith, afterArray, afterZero, placeAfterArray, placeAfterZero};
+ghost use Rattle.schedule.specs.Record.{placeOf, withThread, refusedWith, turnedBy, afterArray, afterZero, placeAfterArray, placeAfterZero};
 use array::Array;
 use array::ArrayStepped;
 use array::outcome::ArrayNext;
+use bounds::flavour::Flavour;
+use bounds::refusal::Refusal;
+use bounds::refusal::Reply;
 use channel::answer::Tick;
 use channel::position::Shape;
-use places::place::Flavour;
 use places::place::Place;
-use places::refusal::Refusal;
-use places::refusal::Reply;
+use places::turn::Turn;
 use waker::context::THREADS;
 use zero::Zero;
 use zero::ZeroStepped;
@@ -86,6 +87,20 @@ impl Record {
         Replied {
             next: self,
             reply: Reply::Refused(refusal),
+        }
+    }
+
+    /// What a turn leaves: its thread stands elsewhere, or it is refused.
+    pub fn turned(self, thread: usize, turn: Turn) -> Replied
+        requires { ⌜ thread < threads ⌝ }
+        ensures { λ r. ⌜ r ≡ turnedBy self thread turn ⌝ }
+    {
+        match turn {
+            Turn::Refused(refusal) => self.refused(refusal),
+            Turn::Stands { place, reply } => Replied {
+                next: self.with_thread(thread, place),
+                reply,
+            },
         }
     }
 

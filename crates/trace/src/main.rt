@@ -2,11 +2,11 @@
 ghost use Prim.Native.Nat.{_≤_};
 ghost use lib.ListN.{length};
 ghost use Rattle.playback.specs.Trace.{shownRoom};
+use bounds::refusal::Refusal;
+use bounds::refusal::Reply;
 use input::Input;
 use libc::STDERR_FILENO;
 use libc::STDOUT_FILENO;
-use places::refusal::Refusal;
-use places::refusal::Reply;
 use playback::held::Held;
 use playback::reply;
 use playback::run::TEXT_LIMIT;

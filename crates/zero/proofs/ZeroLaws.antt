@@ -5,7 +5,7 @@ use mathlib.Core.Bool.{Bool, true, false}
 use Rattle.waker.specs.Choice.{if_then_else_}
 use Rattle.waker.specs.Context.{threads}
 use Rattle.waker.specs.Waker.{oldest, Open, Walkable}
-use Rattle.waker.specs.Wakers.{otherSide, queueOn, listed, wordOf, withWord, selected, registered, unregistered, picked, disconnected, Ready}
+use Rattle.waker.specs.Wakers.{otherSide, queueOn, listed, wordOf, withWord, selected, unregistered, picked, disconnected, Ready}
 use Rattle.waker.specs.declared.context.Thread.{Thread}
 use Rattle.waker.specs.declared.context.Selected.{Selected}
 use Rattle.waker.specs.declared.context.Selected.the-variants as word
@@ -16,7 +16,7 @@ use Rattle.waker.specs.declared.wakers.Side.the-variants.{Sender, Receiver}
 use Rattle.waker.specs.declared.wakers.Wakers.{Wakers}
 use Rattle.waker.proofs.WakerLaws.{found-known}
 use Rattle.zero.specs.ZeroSteps.{sideOf, aloneStep, firstStep, waitStep, askStep, callStep}
-use Rattle.zero.specs.Zero.{packet, noPacket, withWakers, withPacket, flagged, packetFor, foundBy, sightOf, outcomeOf, applied, zeroStep, withMessage, withReady, withLeave, joinedBy}
+use Rattle.zero.specs.Zero.{noPacket, withWakers, withPacket, flagged, packetFor, foundBy, sightOf, outcomeOf, applied, zeroStep, withMessage, withReady, withLeave, joinedBy}
 use Rattle.zero.specs.ZeroBounds.{Bounded, Names, Touches, Reaches}
 use Rattle.channel.specs.declared.answer.Tick.{Tick}
 use Rattle.zero.specs.declared.call.Offer.{Offer}
@@ -29,7 +29,6 @@ use Rattle.zero.specs.declared.call.ZeroCall.the-variants.{First, Put, P
 use Rattle.zero.specs.declared.outcome.ZeroEffect.{ZeroEffect}
 use Rattle.zero.specs.declared.outcome.ZeroEffect.the-variants as effect
 use Rattle.zero.specs.declared.outcome.ZeroOutcome.{ZeroOutcome}
-use Rattle.zero.specs.declared.Packet.{Packet}
 use Rattle.zero.specs.declared.Sight.{Sight}
 use Rattle.zero.specs.declared.Zero.{Zero}
 use Rattle.zero.specs.declared.ZeroStepped.{ZeroStepped}

@@ -8,7 +8,7 @@ use Rattle.waker.specs.Wakers.{otherSide, listed, wordOf, withWord, selected, n
 use Rattle.waker.specs.declared.context.Thread.{Thread}
 use Rattle.waker.specs.declared.context.Selected.the-variants as word
 use Rattle.waker.specs.declared.waker.Found.{Found}
-use Rattle.waker.specs.declared.waker.Found.the-variants.{Nobody, At}
+use Rattle.waker.specs.declared.waker.Found.the-variants.{Nobody}
 use Rattle.waker.specs.declared.wakers.Side.{Side}
 use Rattle.waker.specs.declared.wakers.Wakers.{Wakers}
 use Rattle.zero.specs.ZeroSteps.{sideOf, messageOf, backTo, callStep}

@@ -11,7 +11,6 @@ use crate::call::Offer;
 use crate::call::ZeroCall;
 use crate::outcome::ZeroEffect;
 use crate::outcome::ZeroNext;
-use crate::outcome::ZeroOutcome;
 use channel::answer::Tick;
 use waker::context::Selected;
 use waker::context::THREADS;

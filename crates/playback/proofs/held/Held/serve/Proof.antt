@@ -84,7 +84,7 @@ returns-4 c =
     (on-false _ _ (not-true _ (c .before .if4 .taken)) (c .refused5 .ensures))
 
 advance-in-form-requires : tie.Need-advance-in-form-requires
-advance-in-form-requires c κs = c .before .before .before .before .before .pre (not-false _ (c .if4 .left))
+advance-in-form-requires c κs = tt
 
 kept-requires-3 : tie.Need-kept-requires-3
 kept-requires-3 c κs = tt

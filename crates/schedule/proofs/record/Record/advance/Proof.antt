@@ -1,5 +1,4 @@
 -- `Record::advance` meets its contract: the form is tested, and then it is the inner path.
-use mathlib.Core.Path.{sym, _∙_}
 use Rattle.schedule.specs.Calls.{advanced}
 use Rattle.schedule.proofs.CallLaws.{formed-in, formed-out}
 use Rattle.schedule.proofs.record.Record.advance.Statement.{statement}
@@ -9,7 +8,7 @@ in-form-requires : tie.Need-in-form-requires
 in-form-requires c κs = tt
 
 advance-in-form-requires : tie.Need-advance-in-form-requires
-advance-in-form-requires c κs = sym (c .before .in-form .ensures) ∙ c .if1 .taken
+advance-in-form-requires c κs = tt
 
 returns : tie.Need-returns
 unfolding advanced

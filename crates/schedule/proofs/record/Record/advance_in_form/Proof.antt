@@ -1,12 +1,17 @@
--- `Record::advance_in_form` meets its contract: the form bounds the clock, so that nothing wraps.
-use borrow.Author.Needs.{needs}
-use Rattle.schedule.proofs.InFormLaws.{clock-low}
-use Rattle.schedule.proofs.CallLaws.{advanced-past, advanced-on}
+-- `Record::advance_in_form` meets its contract: one case a clock.
+use mathlib.Core.Path.{refl}
+use Rattle.schedule.proofs.CallLaws.{advanced-by}
 use Rattle.schedule.proofs.record.Record.advance_in_form.Statement.{statement}
 use Rattle.schedule.proofs.record.Record.advance_in_form.Tie as tie
 
-sub-if1 : tie.Need-sub-if1
-sub-if1 c = clock-low (c .before .before .args .self) (c .before .before .pre)
+later-requires : tie.Need-later-requires
+later-requires c κs = tt
+
+enum-known-later : tie.Need-enum-known-later
+enum-known-later c = c .match .keys1
+
+enum-known-later-2 : tie.Need-enum-known-later-2
+enum-known-later-2 c = c .match .keys2
 
 refused-requires : tie.Need-refused-requires
 refused-requires c κs = tt
@@ -14,15 +19,15 @@ refused-requires c κs = tt
 returns : tie.Need-returns
 returns c =
     let s = c .before .before .before .before .before in
-    advanced-past (s .args .self) (s .args .ticks) (c .before .if1 .taken) (c .refused .ensures)
-
-add-t5 : tie.Need-add-t5
-add-t5 c = search needs
+    advanced-by (s .args .self) (s .args .ticks) (c .before .before .before .later .ensures) (c .before .later2 .given .1) refl
 
 returns-2 : tie.Need-returns-2
 returns-2 c =
     let s = c .before .before .before .before .before .before in
-    advanced-on (s .args .self) (s .args .ticks) (clock-low (s .args .self) (s .pre)) (c .before .before .if1 .left)
+    advanced-by (s .args .self) (s .args .ticks) (c .before .before .before .before .later .ensures)
+    (c .before .before .later3 .given .1) (c .refused .ensures)
 
 pub advance-in-form-spec : {M : Type 1} → statement M
-advance-in-form-spec = tie.close (tie.spec sub-if1 refused-requires returns add-t5 returns-2)
+advance-in-form-spec =
+    tie.close
+    (tie.spec later-requires enum-known-later enum-known-later-2 refused-requires returns returns-2)

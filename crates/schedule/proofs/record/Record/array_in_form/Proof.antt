@@ -2,7 +2,7 @@
 use mathlib.Core.Path.{sym, _∙_}
 use Rattle.waker.specs.Choice.{if_then_else_}
 use Rattle.schedule.specs.Form.{arrayInForm}
-use Rattle.places.proofs.FormSavedLaws.{shaped}
+use Rattle.forms.proofs.FormSavedLaws.{shaped}
 use Rattle.schedule.proofs.record.Record.array_in_form.Statement.{statement}
 use Rattle.schedule.proofs.record.Record.array_in_form.Tie as tie
 

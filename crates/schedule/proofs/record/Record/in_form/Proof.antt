@@ -2,7 +2,7 @@
 use mathlib.Core.Path.{sym, _∙_}
 use borrow.Author.Tests.{not-true, not-false}
 use Rattle.schedule.specs.Form.{inForm}
-use Rattle.places.proofs.TestLaws.{and-stops, and-goes}
+use Rattle.bounds.proofs.TestLaws.{and-stops, and-goes}
 use Rattle.schedule.proofs.FormLaws.{fitting, measured, short}
 use Rattle.schedule.proofs.record.Record.in_form.Statement.{statement}
 use Rattle.schedule.proofs.record.Record.in_form.Tie as tie
@@ -26,7 +26,7 @@ returns-2 c =
 
 slots-in-form-requires : tie.Need-slots-in-form-requires
 slots-in-form-requires c κs =
-    measured (c .before .before .before .before .args .self)
+    measured (c .before .before .before .before .before .args .self)
     (sym (c .before .flavour-in-form .ensures) ∙ not-false _ (c .if2 .left))
 
 returns-3 : tie.Need-returns-3
@@ -55,7 +55,7 @@ returns-4 c =
 threads-in-form-requires : tie.Need-threads-in-form-requires
 threads-in-form-requires c κs =
     let at-if2 = c .before .before .before .before in
-    let start = at-if2 .before .before .before .before in (
+    let start = at-if2 .before .before .before .before .before in (
       short (start .args .self) (sym (c .before .queues-in-form .ensures) ∙ not-false _ (c .if4 .left)),
       fitting (start .args .self) (start .args .self .flavour)
           (sym (at-if2 .before .flavour-in-form .ensures) ∙ not-false _ (at-if2 .if2 .left)),

@@ -1,6 +1,6 @@
 -- `Record::queues_in_form` meets its contract: what the test of each queue ensures.
 use Rattle.schedule.specs.Form.{queuesInForm}
-use Rattle.places.proofs.TestLaws.{and-stops, and-goes}
+use Rattle.bounds.proofs.TestLaws.{and-stops, and-goes}
 use Rattle.schedule.proofs.record.Record.queues_in_form.Statement.{statement}
 use Rattle.schedule.proofs.record.Record.queues_in_form.Tie as tie
 

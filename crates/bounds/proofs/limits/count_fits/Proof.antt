@@ -1,0 +1,20 @@
+-- `count_fits` meets its contract: one case a way of its test.
+use borrow.Author.Needs.{needs}
+use borrow.Author.Tests.{le-leb, lt-leb}
+use Rattle.waker.specs.Choice.{if_then_else_}
+use Rattle.bounds.proofs.limits.count_fits.Statement.{statement}
+use Rattle.bounds.proofs.limits.count_fits.Tie as tie
+
+cast-result : tie.Need-cast-result
+cast-result c = search needs
+
+returns : tie.Need-returns
+unfolding if_then_else_
+returns c = rw (le-leb _ _ (c .if1 .taken))
+
+returns-2 : tie.Need-returns-2
+unfolding if_then_else_
+returns-2 c = rw (lt-leb _ _ (c .if1 .left))
+
+pub count-fits-spec : {M : Type 1} → statement M
+count-fits-spec = tie.close (tie.spec cast-result returns returns-2)

@@ -1,0 +1,7 @@
+//! The two channels.
+
+/// Which channel a record holds.
+pub enum Flavour {
+    Zero,
+    Array,
+}

@@ -1,0 +1,87 @@
+//! The bounds, and the refusals that stand on them alone: 2, 3, 8 and 9.
+ghost use mathlib.Core.Path.{_≡_};
+ghost use Rattle.bounds.specs.Limits.{capacityFits, countFits, boundsHold, making, stepping, later};
+use crate::flavour::Flavour;
+use crate::refusal::Refusal;
+use channel::answer::Tick;
+use channel::position::SLOTS;
+use waker::context::THREADS;
+
+/// How many steps a record may make.
+pub const STEP_LIMIT: u32 = 1_000_000;
+
+/// The last tick of the clock.
+pub const CLOCK_LIMIT: u32 = 0xffff_fffe;
+
+/// Whether the bounds allow it.
+pub enum Verdict {
+    Allowed,
+    Refused(Refusal),
+}
+
+/// The clock after an advance, or its refusal.
+pub enum Clock {
+    At(Tick),
+    Refused(Refusal),
+}
+
+/// An array's capacity is from 1 to 64; a rendezvous has none.
+pub fn capacity_fits(flavour: Flavour, capacity: u64) -> bool
+    ensures { λ r. ⌜ r ≡ capacityFits flavour capacity ⌝ }
+{
+    match flavour {
+        Flavour::Zero => true,
+        Flavour::Array => 1 <= capacity && capacity <= (SLOTS as u64),
+    }
+}
+
+/// Threads are from 1 to 8.
+pub fn count_fits(count: u32) -> bool
+    ensures { λ r. ⌜ r ≡ countFits count ⌝ }
+{
+    1 <= count && count <= (THREADS as u32)
+}
+
+/// The bounds hold of a record's threads, steps and clock.
+pub fn bounds_hold(count: u32, steps: u32, clock: Tick) -> bool
+    ensures { λ r. ⌜ r ≡ boundsHold count steps clock ⌝ }
+{
+    if count_fits(count) {
+        return steps <= STEP_LIMIT && clock.0 <= CLOCK_LIMIT;
+    }
+    false
+}
+
+/// May a channel of this capacity be made for so many threads?
+pub fn making(flavour: Flavour, capacity: u64, count: u32) -> Verdict
+    ensures { λ r. ⌜ r ≡ making flavour capacity count ⌝ }
+{
+    if capacity_fits(flavour, capacity) {
+        if count_fits(count) {
+            return Verdict::Allowed;
+        }
+        return Verdict::Refused(Refusal::ThreadCount);
+    }
+    Verdict::Refused(Refusal::Capacity)
+}
+
+/// May a record with so many steps make another?
+pub fn stepping(steps: u32) -> Verdict
+    ensures { λ r. ⌜ r ≡ stepping steps ⌝ }
+{
+    if STEP_LIMIT <= steps {
+        return Verdict::Refused(Refusal::StepLimit);
+    }
+    Verdict::Allowed
+}
+
+/// The clock after so many ticks more.
+pub fn later(clock: Tick, ticks: Tick) -> Clock
+    ensures { λ r. ⌜ r ≡ later clock ticks ⌝ }
+{
+    let sum = clock.0 as u64 + ticks.0 as u64;
+    if (CLOCK_LIMIT as u64) < sum {
+        return Clock::Refused(Refusal::ClockLimit);
+    }
+    Clock::At(Tick(sum as u32))
+}

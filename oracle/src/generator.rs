@@ -61,7 +61,8 @@ pub fn text(seed: u64) -> Vec<u8> {
         true if r.once_in(4) => 1 + r.below(64),
         true => r.one_of(&[1, 1, 2, 2, 3, 4, 5, 7, 8, 64]),
     };
-    let threads = if r.once_in(4) { 1 + r.below(8) } else { 2 + r.below(3) };
+    let fewest = if array { 1 } else { 2 };
+    let threads = if r.once_in(4) { fewest + r.below(9 - fewest) } else { 2 + r.below(3) };
     let codes: &[u64] = match (array, r.below(3)) {
         (true, 0) => &[1, 2],
         (true, 1) => &[1, 1, 2, 2, 5, 6, 7, 8],
@@ -73,6 +74,9 @@ pub fn text(seed: u64) -> Vec<u8> {
     let mut lines = Vec::new();
     if r.once_in(20) {
         lines.push(odd_line(r));
+    }
+    if r.once_in(8) {
+        lines.push(r.one_of(&["000000", "000001", "000009", "000100", "000109", "004101"]).into());
     }
     lines.push(format!("00{capacity:02x}{threads:02x}"));
     let whole_calls = r.one_of(&[0, 2, 10]);

@@ -127,7 +127,8 @@ impl Record {
         if capacity > 64 {
             return Err(2);
         }
-        if count == 0 || count > 8 {
+        let fewest = if capacity == 0 { 2 } else { 1 };
+        if count < fewest || count > 8 {
             return Err(3);
         }
         let channel = match capacity {

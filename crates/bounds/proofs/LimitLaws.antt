@@ -7,7 +7,7 @@ use lib.Dec.{leb}
 use Rattle.waker.specs.Choice.{if_then_else_}
 use Rattle.waker.specs.Context.{threads}
 use Rattle.channel.specs.Position.{slots}
-use Rattle.bounds.specs.Limits.{capacityFits, countFits, making}
+use Rattle.bounds.specs.Limits.{capacityFits, fewest, countFits, making}
 use Rattle.bounds.specs.declared.flavour.Flavour.{Flavour}
 use Rattle.bounds.specs.declared.flavour.Flavour.the-variants.{Array}
 use Rattle.bounds.specs.declared.limits.Verdict.{Verdict}
@@ -17,7 +17,7 @@ use Rattle.bounds.proofs.TestLaws.{and-left, and-right}
 
 pub record Allows (f : Flavour) (c n : ℕ) : Type 0 where
   pub capacity : capacityFits f c ≡ true
-  pub count : countFits n ≡ true
+  pub count : countFits f n ≡ true
 
 module _ (f : Flavour) (c n : ℕ) where
   abbrev pub Granted : Verdict → Type 0
@@ -26,9 +26,9 @@ module _ (f : Flavour) (c n : ℕ) where
 
   pub granted : Granted (making f c n)
   unfolding if_then_else_
-  granted = go (capacityFits f c) (countFits n) refl refl
+  granted = go (capacityFits f c) (countFits f n) refl refl
     where
-      go : (a b : Bool) → capacityFits f c ≡ a → countFits n ≡ b →
+      go : (a b : Bool) → capacityFits f c ≡ a → countFits f n ≡ b →
           Granted (if a then (if b then Allowed else Refused ThreadCount) else Refused Capacity)
       go true true p q = record { capacity = p; count = q }
       go true false p q = tt
@@ -41,5 +41,5 @@ capacity-some c h = leb-true _ _ (and-left _ (leb c slots) h)
 pub capacity-most : (c : ℕ) → capacityFits Array c ≡ true → c ≤ slots
 capacity-most c h = leb-true _ _ (and-right (leb 1 c) _ h)
 
-pub count-most : (n : ℕ) → countFits n ≡ true → n ≤ threads
-count-most n h = leb-true _ _ (and-right (leb 1 n) _ h)
+pub count-most : (f : Flavour) (n : ℕ) → countFits f n ≡ true → n ≤ threads
+count-most f n h = leb-true _ _ (and-right (leb (fewest f) n) _ h)

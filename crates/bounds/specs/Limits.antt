@@ -28,18 +28,22 @@ abbrev pub capacityFits : Flavour → ℕ → Bool
 capacityFits Zero c = true
 capacityFits Array c = leb 1 c and leb c slots
 
--- Threads 1 to 8.
-abbrev pub countFits : ℕ → Bool
-countFits n = leb 1 n and leb n threads
+-- Threads 1 to 8; a rendezvous has at least 2 (#109).
+abbrev pub fewest : Flavour → ℕ
+fewest Zero = 2
+fewest Array = 1
+
+abbrev pub countFits : Flavour → ℕ → Bool
+countFits f n = leb (fewest f) n and leb n threads
 
 -- These bounds hold of a record's threads, steps and clock.
-abbrev pub boundsHold : ℕ → ℕ → Tick → Bool
-boundsHold n s c = countFits n and leb s stepLimit and leb (c .0) clockLimit
+abbrev pub boundsHold : Flavour → ℕ → ℕ → Tick → Bool
+boundsHold f n s c = countFits f n and leb s stepLimit and leb (c .0) clockLimit
 
--- 2: array capacity 0 or above 64. 3: thread count 0 or above 8.
+-- 2: array capacity 0 or above 64. 3: thread count 0 or above 8, or below 2 on a rendezvous.
 abbrev pub making : Flavour → ℕ → ℕ → Verdict
 making f c n =
-    if capacityFits f c then (if countFits n then Allowed else Refused ThreadCount) else Refused Capacity
+    if capacityFits f c then (if countFits f n then Allowed else Refused ThreadCount) else Refused Capacity
 
 -- 8: 1,000,000 steps made.
 abbrev pub stepping : ℕ → Verdict

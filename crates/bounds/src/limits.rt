@@ -1,6 +1,6 @@
 //! The bounds, and the refusals that stand on them alone: 2, 3, 8 and 9.
 ghost use mathlib.Core.Path.{_≡_};
-ghost use Rattle.bounds.specs.Limits.{capacityFits, countFits, boundsHold, making, stepping, later};
+ghost use Rattle.bounds.specs.Limits.{capacityFits, fewest, countFits, boundsHold, making, stepping, later};
 use crate::flavour::Flavour;
 use crate::refusal::Refusal;
 use channel::answer::Tick;
@@ -35,18 +35,28 @@ pub fn capacity_fits(flavour: Flavour, capacity: u64) -> bool
     }
 }
 
-/// Threads are from 1 to 8.
-pub fn count_fits(count: u32) -> bool
-    ensures { λ r. ⌜ r ≡ countFits count ⌝ }
+/// The fewest threads: a rendezvous needs two to meet.
+fn fewest(flavour: Flavour) -> u32
+    ensures { λ r. ⌜ r ≡ fewest flavour ⌝ }
 {
-    1 <= count && count <= (THREADS as u32)
+    match flavour {
+        Flavour::Zero => 2,
+        Flavour::Array => 1,
+    }
+}
+
+/// Threads are from the fewest to 8.
+pub fn count_fits(flavour: Flavour, count: u32) -> bool
+    ensures { λ r. ⌜ r ≡ countFits flavour count ⌝ }
+{
+    fewest(flavour) <= count && count <= (THREADS as u32)
 }
 
 /// The bounds hold of a record's threads, steps and clock.
-pub fn bounds_hold(count: u32, steps: u32, clock: Tick) -> bool
-    ensures { λ r. ⌜ r ≡ boundsHold count steps clock ⌝ }
+pub fn bounds_hold(flavour: Flavour, count: u32, steps: u32, clock: Tick) -> bool
+    ensures { λ r. ⌜ r ≡ boundsHold flavour count steps clock ⌝ }
 {
-    if count_fits(count) {
+    if count_fits(flavour, count) {
         return steps <= STEP_LIMIT && clock.0 <= CLOCK_LIMIT;
     }
     false
@@ -57,7 +67,7 @@ pub fn making(flavour: Flavour, capacity: u64, count: u32) -> Verdict
     ensures { λ r. ⌜ r ≡ making flavour capacity count ⌝ }
 {
     if capacity_fits(flavour, capacity) {
-        if count_fits(count) {
+        if count_fits(flavour, count) {
             return Verdict::Allowed;
         }
         return Verdict::Refused(Refusal::ThreadCount);

@@ -69,7 +69,7 @@ module _ (c : ℕ) (some : 0 < c) (most : c ≤ slots) where
       clear : Clear (shapeOf c) B (at 0)
       clear = record { low = omega arith; slot = omega (arith, zero-mod (shapeOf c .lap)) }
 
-  fresh-kept : (n : ℕ) → countFits n ≡ true → KeptArray (freshArrayRecord c n)
+  fresh-kept : (n : ℕ) → countFits Array n ≡ true → KeptArray (freshArrayRecord c n)
   fresh-kept n fits =
       record {
         capacity = c;

@@ -60,7 +60,7 @@ module _ (r : Record) (k : KeptArray r) where
         shape = k .shape;
         flavour = k .flavour;
         zero = k .zero;
-        bounds = same-bounds {r = r} refl refl refl (k .bounds);
+        bounds = same-bounds {r = r} refl refl refl refl (k .bounds);
         memory = k .memory;
         places = λ u.
             at-set (λ (x : ThreadRecord). PlaceSaved (r .shape) (reach r) (x .place)) (r .threads) t u (threadAt p)
@@ -78,7 +78,7 @@ module _ (r : Record) (k : KeptArray r) where
         shape = k .shape;
         flavour = k .flavour;
         zero = k .zero;
-        bounds = stepped-bounds {r = r} refl refl refl few (k .bounds);
+        bounds = stepped-bounds {r = r} refl refl refl refl few (k .bounds);
         memory = rw (more (r .steps) (r .shape .lap)) (good .memory);
         places = λ u.
             rw (more (r .steps) (r .shape .lap))

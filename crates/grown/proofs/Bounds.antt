@@ -18,11 +18,11 @@ use Rattle.grown.proofs.Tests.{passes}
 use Rattle.grown.proofs.Lists.{at-set}
 
 pub record Bounds (r : Record) : Type 0 where
-  pub fits : countFits (r .count) ≡ true
+  pub fits : countFits (r .flavour) (r .count) ≡ true
   pub steps : r .steps ≤ stepLimit
   pub clock : r .clock .0 ≤ clockLimit
 
-pub bounds-hold : (r : Record) → Bounds r → boundsHold (r .count) (r .steps) (r .clock) ≡ true
+pub bounds-hold : (r : Record) → Bounds r → boundsHold (r .flavour) (r .count) (r .steps) (r .clock) ≡ true
 bounds-hold r b =
     passes (b .fits)
     (passes (le-leb (r .steps) stepLimit (b .steps)) (le-leb (r .clock .0) clockLimit (b .clock)))
@@ -44,15 +44,16 @@ still-idle r t p l idle u h =
     (λ e. absurd (omega arith)) (idle u h)
 
 -- The bounds of a record with the same count, and a later clock or one step more.
-pub same-bounds : {r s : Record} → s .count ≡ r .count → s .steps ≡ r .steps → s .clock ≡ r .clock → Bounds r → Bounds s
-same-bounds c n k b =
-    record { fits = rw c (b .fits); steps = rw n (b .steps); clock = rw k (b .clock) }
+pub same-bounds : {r s : Record} → s .flavour ≡ r .flavour → s .count ≡ r .count → s .steps ≡ r .steps → s .clock ≡ r .clock →
+    Bounds r → Bounds s
+same-bounds f c n k b =
+    record { fits = rw (f, c) (b .fits); steps = rw n (b .steps); clock = rw k (b .clock) }
 
 pub later-bounds : {r : Record} (n : ℕ) → r .clock .0 + n ≤ clockLimit → Bounds r →
     Bounds (withClock r (ticks (r .clock .0 + n)))
 later-bounds n l b = record { fits = b .fits; steps = b .steps; clock = l }
 
-pub stepped-bounds : {r s : Record} → s .count ≡ r .count → s .steps ≡ r .steps + 1 → s .clock ≡ r .clock →
-    r .steps < stepLimit → Bounds r → Bounds s
-stepped-bounds c n k l b =
-    record { fits = rw c (b .fits); steps = rw n (omega arith); clock = rw k (b .clock) }
+pub stepped-bounds : {r s : Record} → s .flavour ≡ r .flavour → s .count ≡ r .count → s .steps ≡ r .steps + 1 →
+    s .clock ≡ r .clock → r .steps < stepLimit → Bounds r → Bounds s
+stepped-bounds f c n k l b =
+    record { fits = rw (f, c) (b .fits); steps = rw n (omega arith); clock = rw k (b .clock) }

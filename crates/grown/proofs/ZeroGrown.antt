@@ -14,6 +14,7 @@ use Rattle.waker.specs.declared.wakers.Side.the-variants.{Sender, Receiver}
 use Rattle.waker.proofs.WakerLaws.{entries-queueOf}
 use Rattle.zero.specs.Zero.{noPacket, freshZero}
 use Rattle.bounds.specs.Limits.{countFits}
+use Rattle.bounds.specs.declared.flavour.Flavour.the-variants.{Zero}
 use Rattle.schedule.specs.Record.{threadAt, placeOf, acceptedAs}
 use Rattle.schedule.specs.Making.{madeZero, freshZeroRecord}
 use Rattle.forms.specs.FormWaits.{partnerOf, timesIn}
@@ -71,7 +72,7 @@ module _ (n : ℕ) where
         sole = λ t u σ τ v w e f s. absurd (unnamed t σ v e);
       }
 
-  fresh-kept : countFits n ≡ true → KeptZero (freshZeroRecord n)
+  fresh-kept : countFits Zero n ≡ true → KeptZero (freshZeroRecord n)
   fresh-kept fits =
       record {
         flavour = refl;

@@ -48,7 +48,7 @@ inside r k u busy = go (decLe (r .count) u)
   where
     go : Dec (r .count ≤ u) → u < threads
     go (yes l) = absurd (busy (k .beyond u l))
-    go (no l) = omega (arith, count-most (r .count) (k .bounds .fits))
+    go (no l) = omega (arith, count-most (r .flavour) (r .count) (k .bounds .fits))
 
 pub queued-inside : (r : Record) → KeptZero r → (u : ℕ) (σ : Side) → 0 < timesIn u (listed (r .zero .wakers) σ) → u < threads
 queued-inside r k u σ l =

@@ -82,7 +82,7 @@ module _ (r : Record) (k : KeptZero r) where
         sound = k .sound;
         orderly = k .orderly;
         long = k .long;
-        there = omega (arith, count-most (r .count) (k .bounds .fits));
+        there = omega (arith, count-most (r .flavour) (r .count) (k .bounds .fits));
         inside = queued-inside r k;
       }
 
@@ -93,7 +93,7 @@ module _ (r : Record) (k : KeptZero r) where
         flavour = k .flavour;
         shape = k .shape;
         array = k .array;
-        bounds = same-bounds {r = r} refl refl refl (k .bounds);
+        bounds = same-bounds {r = r} refl refl refl refl (k .bounds);
         long = length-set (r .threads) t (threadAt q) ∙ k .long;
         beyond = still-idle r t q l (k .beyond);
         sound = k .sound;
@@ -109,7 +109,7 @@ module _ (r : Record) (k : KeptZero r) where
         flavour = k .flavour;
         shape = k .shape;
         array = k .array;
-        bounds = stepped-bounds {r = r} refl refl refl few (k .bounds);
+        bounds = stepped-bounds {r = r} refl refl refl refl few (k .bounds);
         long = length-set (r .threads) (t .0) _ ∙ k .long;
         beyond = still-idle r (t .0) _ l (k .beyond);
         sound = good .sound;

@@ -32,4 +32,8 @@ fn main() {
     tell(13, rows::no_array(0));
     tell(13, rows::no_array(65));
     tell(14, rows::last_tick());
+    tell(15, rows::lonely());
+    tell(15, rows::two());
+    tell(15, rows::lonely_array());
+    tell(15, rows::built_lonely());
 }

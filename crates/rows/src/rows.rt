@@ -120,3 +120,32 @@ pub fn last_tick() -> Run {
         .advances(0)
         .stays(1, 9)
 }
+
+/// Row 15, of 02's #109: a rendezvous of one thread is refusal 3, and what is returned is all 0.
+pub fn lonely() -> Run {
+    Run::not_made(Record::make_zero(1), 3)
+        .shows(0, 0)
+        .shows(4, 0)
+}
+
+/// Two threads make one.
+pub fn two() -> Run {
+    Run::made(Record::make_zero(2)).shows(4, 2)
+}
+
+/// An array may have one thread.
+pub fn lonely_array() -> Run {
+    Run::made(Record::make_array(1, 1)).shows(4, 1)
+}
+
+/// A rendezvous record built by hand with one thread is out of form.
+pub fn built_lonely() -> Run {
+    let replied = Record::make_zero(2);
+    let mut channel = replied.next;
+    channel.count = 1;
+    let built = Run {
+        channel,
+        agrees: true,
+    };
+    built.stays(0, 1)
+}

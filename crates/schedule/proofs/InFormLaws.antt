@@ -4,7 +4,7 @@ use mathlib.Core.Path.{_≡_, refl, sym, subst, _∙_}
 use mathlib.Core.Bool.{Bool, true, false}
 use mathlib.Core.List.{_++_}
 use native.Mathlib.Omega.{arith}
-use lib.Dec.{ltb, leb}
+use lib.Dec.{ltb}
 use lib.ListN.{length, getD, drop, replicate, take-append-drop, length-drop, length-replicate, getD-replicate, List·getD-eq-default}
 use lib.Seq.{ext-getD, getD-take, getD-drop, length-take-le}
 use borrow.Author.Tests.{eqb-true, ltb-true, ltb-false, leb-true, lt-ltb, le-ltb}
@@ -46,6 +46,7 @@ use Rattle.bounds.specs.declared.flavour.Flavour.the-variants as flavour
 use Rattle.places.specs.declared.place.Place.{Place}
 use Rattle.places.specs.declared.place.Place.the-variants.{Array, Zero}
 use Rattle.schedule.specs.declared.record.Record.{Record}
+use Rattle.bounds.proofs.LimitLaws.{count-most}
 use Rattle.bounds.proofs.TestLaws.{and-left, and-right, either-way, all-at}
 use Rattle.forms.proofs.TimesLaws.{room}
 use Rattle.forms.proofs.FormSavedLaws.{shaped}
@@ -169,7 +170,7 @@ named-low : (r : Record) (t : ℕ) (σ : Side) (v : Thread) → namedInForm r t 
 named-low r t σ v p = ltb-true _ _ (and-left _ _ p)
 
 module _ (r : Record) (h : InForm r) where
-  bounds : boundsHold (r .count) (r .steps) (r .clock) ≡ true
+  bounds : boundsHold (r .flavour) (r .count) (r .steps) (r .clock) ≡ true
   unfolding inForm
   bounds = and-left _ _ h
 
@@ -190,7 +191,7 @@ module _ (r : Record) (h : InForm r) where
   thread-at = all-at threads (threadInForm r) (and-right _ _ (and-right _ _ (and-right _ _ (and-right _ _ h))))
 
   pub count-low : r .count ≤ threads
-  count-low = leb-true _ _ (and-right (leb 1 (r .count)) _ (and-left _ _ bounds))
+  count-low = count-most (r .flavour) (r .count) (and-left _ _ bounds)
 
   pub thread-low : (t : ℕ) → t < r .count → t < threads
   thread-low t k = omega (arith, count-low)

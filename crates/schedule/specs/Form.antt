@@ -107,7 +107,7 @@ module _ (r : Record) where
   threadsInForm = allBelow threads threadInForm
 
   unfoldable pub inForm : Bool
-  inForm = boundsHold (r .count) (r .steps) (r .clock) and flavourInForm r and slotsInForm r and queuesInForm r and threadsInForm
+  inForm = boundsHold (r .flavour) (r .count) (r .steps) (r .clock) and flavourInForm r and slotsInForm r and queuesInForm r and threadsInForm
 
 -- The record is in form.
 abbrev pub InForm : Record → Type 0

@@ -242,7 +242,8 @@ impl Record {
         ensures { λ r. ⌜ r ≡ inForm self ⌝ }
     {
         let clock = self.clock;
-        if !limits::bounds_hold(self.count, self.steps, clock) {
+        let flavour = self.flavour;
+        if !limits::bounds_hold(flavour, self.count, self.steps, clock) {
             return false;
         }
         if !self.flavour_in_form() {

@@ -7,11 +7,11 @@ use Rattle.waker.specs.Context.{thread}
 use Rattle.waker.specs.declared.context.Selected.{Selected}
 use Rattle.waker.specs.declared.context.Selected.the-variants as word
 use Rattle.waker.specs.declared.wakers.Side.{Side}
-use Rattle.waker.specs.declared.wakers.Side.the-variants.{Sender, Receiver}
+use Rattle.waker.specs.declared.wakers.Side.the-variants.{Receiver}
 use Rattle.channel.specs.Answer.{ticks}
 use Rattle.channel.specs.declared.answer.Answer.{Answer}
 use Rattle.channel.specs.declared.answer.Answer.the-variants.{Sent, Received, Full, Timeout, Number}
-use Rattle.zero.specs.declared.call.ZeroCall.the-variants.{Put, ReadyWait, Leave}
+use Rattle.zero.specs.declared.call.ZeroCall.the-variants.{Put, Leave}
 use Rattle.places.specs.Begin.{noDeadline}
 use Rattle.schedule.specs.Making.{madeArray, madeZero}
 use Rattle.schedule.specs.History.{Act, begins, steps, takes}

@@ -1,5 +1,6 @@
 //! The channel that a text has made so far, and the answer to one frame.
 ghost use mathlib.Core.Path.{_≡_};
+ghost use mathlib.Core.Bool.{true, false};
 ghost use Rattle.playback.specs.Served.{nothingMade, refusedBy, acceptedAs, headedBy, keptBy, makingOf, servedFor, Standing};
 use bounds::refusal::Refusal;
 use bounds::refusal::Reply;
@@ -87,50 +88,50 @@ impl Held {
         }
     }
 
-    /// The answer to one frame, on the inner path: the form is not tested.
-    pub fn serve(self, frame: Frame) -> Served
-        requires { ⌜ Standing self ⌝ }
+    /// Before a channel was made, only a header is heard.
+    fn serve_unmade(self, frame: Frame) -> Served
+        requires { ⌜ self .made ≡ false ⌝ }
         ensures { λ r. ⌜ r ≡ servedFor self frame ⌝ }
     {
-        let made = self.made;
+        match frame {
+            Frame::Malformed => self.refused(Refusal::Malformed),
+            Frame::Header { capacity, threads } => headed(making(capacity, threads)),
+            Frame::Begin { .. } => self.refused(Refusal::NoChannel),
+            Frame::Step { .. } => self.refused(Refusal::NoChannel),
+            Frame::Advance { .. } => self.refused(Refusal::NoChannel),
+            Frame::Take { .. } => self.refused(Refusal::NoChannel),
+        }
+    }
+
+    /// On a channel that was made, a header is malformed; the form is not tested.
+    fn serve_made(self, frame: Frame) -> Served
+        requires { ⌜ (self .made ≡ true) × Standing self ⌝ }
+        ensures { λ r. ⌜ r ≡ servedFor self frame ⌝ }
+    {
         let channel = self.channel;
         match frame {
             Frame::Malformed => self.refused(Refusal::Malformed),
-            Frame::Header { capacity, threads } => {
-                if made {
-                    return self.refused(Refusal::Malformed);
-                }
-                headed(making(capacity, threads))
-            }
+            Frame::Header { .. } => self.refused(Refusal::Malformed),
             Frame::Begin {
                 thread,
                 code,
                 message,
                 deadline,
-            } => {
-                if !made {
-                    return self.refused(Refusal::NoChannel);
-                }
-                kept(channel.begin_in_form(thread, code, message, deadline))
-            }
-            Frame::Step { thread } => {
-                if !made {
-                    return self.refused(Refusal::NoChannel);
-                }
-                kept(channel.step_in_form(thread))
-            }
-            Frame::Advance { ticks } => {
-                if !made {
-                    return self.refused(Refusal::NoChannel);
-                }
-                kept(channel.advance_in_form(ticks))
-            }
-            Frame::Take { thread } => {
-                if !made {
-                    return self.refused(Refusal::NoChannel);
-                }
-                kept(channel.take_in_form(thread))
-            }
+            } => kept(channel.begin_in_form(thread, code, message, deadline)),
+            Frame::Step { thread } => kept(channel.step_in_form(thread)),
+            Frame::Advance { ticks } => kept(channel.advance_in_form(ticks)),
+            Frame::Take { thread } => kept(channel.take_in_form(thread)),
         }
+    }
+
+    /// The answer to one frame, on the inner path.
+    pub fn serve(self, frame: Frame) -> Served
+        requires { ⌜ Standing self ⌝ }
+        ensures { λ r. ⌜ r ≡ servedFor self frame ⌝ }
+    {
+        if self.made {
+            return self.serve_made(frame);
+        }
+        self.serve_unmade(frame)
     }
 }

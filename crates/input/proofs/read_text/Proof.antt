@@ -1,7 +1,6 @@
 -- `read_text` ends: each turn puts at least a byte.
 use Prim.Native.Nat.{_-_, _≤_}
 use mathlib.Core.Path.{_≡_}
-use native.Mathlib.Omega.{arith}
 use lib.ListN.{length}
 use borrow.Author.Needs.{needs}
 use Rattle.input.proofs.read_text.Statement.{statement}

@@ -26,7 +26,7 @@ pub enum Clock {
 }
 
 /// An array's capacity is from 1 to 64; a rendezvous has none.
-pub fn capacity_fits(flavour: Flavour, capacity: u64) -> bool
+fn capacity_fits(flavour: Flavour, capacity: u64) -> bool
     ensures { λ r. ⌜ r ≡ capacityFits flavour capacity ⌝ }
 {
     match flavour {
@@ -46,7 +46,7 @@ fn fewest(flavour: Flavour) -> u32
 }
 
 /// Threads are from the fewest to 8.
-pub fn count_fits(flavour: Flavour, count: u32) -> bool
+fn count_fits(flavour: Flavour, count: u32) -> bool
     ensures { λ r. ⌜ r ≡ countFits flavour count ⌝ }
 {
     fewest(flavour) <= count && count <= (THREADS as u32)

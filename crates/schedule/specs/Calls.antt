@@ -27,7 +27,7 @@ formed r y = if inForm r then y else refusedWith r OutOfForm
 abbrev pub threaded : Record → Thread → Replied → Replied
 threaded r t y = if leb (r .count) (t .0) then refusedWith r NoSuchThread else y
 
--- Begin.
+-- Begin: 5 and 7, by where the thread stands.
 unfoldable pub begunInForm : Record → Thread → ℕ → ℕ → Tick → Replied
 begunInForm r t c m d =
     threaded r t (turnedBy r (t .0) (begunFrom (placeOf r (t .0)) (started (r .flavour) c m d)))
@@ -35,7 +35,7 @@ begunInForm r t c m d =
 unfoldable pub begun : Record → Thread → ℕ → ℕ → Tick → Replied
 begun r t c m d = formed r (begunInForm r t c m d)
 
--- Step: the running call goes on.
+-- Step: 6 and 8 in the same way; a running call goes on.
 abbrev pub steppedBy : Record → Thread → Running → Replied
 steppedBy r t (Refused n) = refusedWith r n
 steppedBy r t (Array k) = acceptedAs (afterArray r (t .0) (arrayStep (r .shape) (r .array) k))
@@ -47,7 +47,7 @@ steppedInForm r t = threaded r t (steppedBy r t (goesOn (placeOf r (t .0)) (r .s
 unfoldable pub stepped : Record → Thread → Replied
 stepped r t = formed r (steppedInForm r t)
 
--- Advance.
+-- Advance: 9.
 abbrev pub advancedTo : Record → Clock → Replied
 advancedTo r (clock.At c) = acceptedAs (withClock r c)
 advancedTo r (clock.Refused n) = refusedWith r n
@@ -58,7 +58,7 @@ advancedInForm r n = advancedTo r (later (r .clock) n)
 unfoldable pub advanced : Record → Tick → Replied
 advanced r n = formed r (advancedInForm r n)
 
--- Take.
+-- Take: 10.
 unfoldable pub takenInForm : Record → Thread → Replied
 takenInForm r t = threaded r t (turnedBy r (t .0) (takenFrom (placeOf r (t .0))))
 

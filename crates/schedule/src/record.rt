@@ -2,6 +2,7 @@
 ghost use mathlib.Core.Path.{_≡_};
 ghost use Prim.Native.Nat.{_<_};
 ghost use Rattle.waker.specs.Context.{threads};
+ghost use Rattle.bounds.specs.Limits.{stepLimit};
 ghost use Rattle.schedule.specs.Record.{placeOf, withThread, refusedWith, turnedBy, afterArray, afterZero, placeAfterArray, placeAfterZero};
 use array::Array;
 use array::ArrayStepped;
@@ -106,7 +107,7 @@ impl Record {
 
     /// A step on the array is made and counted.
     pub fn after_array(mut self, thread: usize, stepped: ArrayStepped) -> Record
-        requires { ⌜ (thread < threads) × (self .steps < 1000000) ⌝ }
+        requires { ⌜ (thread < threads) × (self .steps < stepLimit) ⌝ }
         ensures { λ r. ⌜ r ≡ afterArray self thread stepped ⌝ }
     {
         let array = stepped.array;
@@ -120,7 +121,7 @@ impl Record {
 
     /// A step on the rendezvous is made and counted.
     pub fn after_zero(mut self, thread: usize, stepped: ZeroStepped) -> Record
-        requires { ⌜ (thread < threads) × (self .steps < 1000000) ⌝ }
+        requires { ⌜ (thread < threads) × (self .steps < stepLimit) ⌝ }
         ensures { λ r. ⌜ r ≡ afterZero self thread stepped ⌝ }
     {
         let zero = stepped.zero;

@@ -28,7 +28,7 @@ use Rattle.schedule.specs.History.{Act, begins, steps, advances, takes, actOn, 
 use Rattle.schedule.specs.declared.record.Record.{Record}
 use Rattle.schedule.specs.declared.record.Replied.{Replied}
 use Rattle.text.specs.Hex.{hexOf}
-use Rattle.text.specs.Frames.{given, headerOf, beginOf, stepOf, advanceOf, takeOf, formOf, parseOf}
+use Rattle.text.specs.Frames.{given, headerOf, beginOf, threadOf, stepOf, advanceOf, takeOf, formOf, parseOf}
 use Rattle.text.specs.Output.{codeLine, tookLine, Put}
 use Rattle.text.specs.declared.hex.Number.{Number}
 use Rattle.text.specs.declared.hex.Number.the-variants as number
@@ -179,11 +179,11 @@ taking-given n (number.Is k) f h = h k
 taking-given n number.None f h = omega arith
 
 taking-take : (l : List ℕ) → taking (takeOf l) ≤ length l + 2
-unfolding takeOf if_then_else_
+unfolding takeOf threadOf if_then_else_
 taking-take l = go (eqb (length l) 2) refl
   where
     go : (b : Bool) → eqb (length l) 2 ≡ b →
-        taking (if b then given (hexOf 0 l) (λ t. Take (thread t)) else Malformed) ≤ length l + 2
+        taking (given (if b then hexOf 0 l else number.None) (λ t. Take (thread t))) ≤ length l + 2
     go true e =
         let few : taking (given (hexOf 0 l) (λ t. Take (thread t))) ≤ 4 = taking-given 4 (hexOf 0 l) _ (λ k. lit≤ tt) in
         omega (arith, eqb-true (length l) 2 e)
@@ -203,7 +203,7 @@ taking-form k l =
     taking-given n (hexOf 0 (take 8 (drop 4 l))) _ (λ m.
     taking-given n (hexOf 0 (drop 12 l)) _ (λ d. none)))))
     none)
-    (both taking n _ _ _ (both taking n _ _ _ (taking-given n (hexOf 0 l) _ (λ t. none)) none)
+    (both taking n _ _ _ (taking-given n (threadOf l) _ (λ t. none))
     (both taking n _ _ _ (both taking n _ _ _ (taking-given n (hexOf 0 l) _ (λ d. none)) none)
     (both taking n _ _ _ (taking-take l) none))))
 

@@ -1,5 +1,5 @@
 -- Each frame whose fields fit has one line: the line spells the frame, and no other line does.
-use Prim.Native.Nat.{ℕ, _+_}
+use Prim.Native.Nat.{ℕ, _+_, _^_, _<_}
 use mathlib.Core.Bool.{Bool, true, false}
 use mathlib.Core.Path.{_≡_, refl, ap, sym, subst, _∙_}
 use mathlib.Core.List.{List, [], _∷_, _++_}
@@ -12,7 +12,7 @@ use Rattle.channel.specs.Answer.{ticks}
 use Rattle.waker.specs.Choice.{if_then_else_}
 use Rattle.waker.specs.Context.{thread}
 use Rattle.text.specs.Hex.{hexOf, byteText}
-use Rattle.text.specs.Frames.{given, headerOf, beginOf, stepOf, advanceOf, takeOf, formOf, parseOf}
+use Rattle.text.specs.Frames.{given, headerOf, beginOf, threadOf, stepOf, advanceOf, takeOf, formOf, parseOf}
 use Rattle.text.specs.Texts.{textOf, Spelled, ReadWritten, WrittenRead}
 use Rattle.text.specs.declared.hex.Number.{Number}
 use Rattle.text.specs.declared.hex.Number.the-variants.{Is, None}
@@ -21,7 +21,7 @@ use Rattle.text.specs.declared.frame.Frame.the-variants.{Header, Begin, 
 use Rattle.text.proofs.HexLaws.{hex-byte, hex-word, byte-only, word-only}
 
 pub read-written : ReadWritten
-unfolding parseOf formOf headerOf beginOf stepOf advanceOf takeOf if_then_else_
+unfolding parseOf formOf headerOf beginOf threadOf stepOf advanceOf takeOf if_then_else_
 read-written (Header c n) h = rw (hex-byte c (h .0), hex-byte n (h .1))
 read-written (Begin t o m d) h =
     rw (hex-byte (t .0) (h .0), hex-byte o (h .1), hex-word m (h .2), hex-word (d .0) (h .3))
@@ -95,13 +95,20 @@ begin-only s =
     begin-text s t o m d (eqb-true (length s) 20 x) et eo em ed)))))
     (only-none _)
 
+-- The digits of a thread are its text, if they are read at all.
+thread-text : (s : List ℕ) (t : ℕ) → threadOf s ≡ Is t → (t < 2 ^ 8) × (s ≡ byteText t)
+unfolding threadOf if_then_else_
+thread-text s t = go (eqb (length s) 2) refl
+  where
+    go : (x : Bool) → eqb (length s) 2 ≡ x → (if x then hexOf 0 s else None) ≡ Is t → (t < 2 ^ 8) × (s ≡ byteText t)
+    go true x e = byte-only s t (eqb-true (length s) 2 x) e
+    go false x e = let w : _≡_ {A = ℕ} 0 1 = cc in absurd (omega arith)
+
 step-only : (s : List ℕ) → Only (0x30 ∷ 0x32 ∷ s) (stepOf s)
 unfolding stepOf Only
 step-only s =
-    only-if _ _ _ (eqb (length s) 2)
-    (λ x. only-given _ _ (hexOf 0 s) (λ t e ne.
-    let p = byte-only s t (eqb-true (length s) 2 x) e in (p .0, ap (λ (u : List ℕ). 0x30 ∷ 0x32 ∷ u) (p .1))))
-    (only-none _)
+    only-given _ _ (threadOf s) (λ t e ne.
+    let p = thread-text s t e in (p .0, ap (λ (u : List ℕ). 0x30 ∷ 0x32 ∷ u) (p .1)))
 
 advance-only : (s : List ℕ) → Only (0x30 ∷ 0x33 ∷ s) (advanceOf s)
 unfolding advanceOf Only
@@ -114,10 +121,8 @@ advance-only s =
 take-only : (s : List ℕ) → Only (0x30 ∷ 0x34 ∷ s) (takeOf s)
 unfolding takeOf Only
 take-only s =
-    only-if _ _ _ (eqb (length s) 2)
-    (λ x. only-given _ _ (hexOf 0 s) (λ t e ne.
-    let p = byte-only s t (eqb-true (length s) 2 x) e in (p .0, ap (λ (u : List ℕ). 0x30 ∷ 0x34 ∷ u) (p .1))))
-    (only-none _)
+    only-given _ _ (threadOf s) (λ t e ne.
+    let p = thread-text s t e in (p .0, ap (λ (u : List ℕ). 0x30 ∷ 0x34 ∷ u) (p .1)))
 
 -- By the second digit, and by the first.
 form-only : (k : ℕ) (s : List ℕ) → Only (0x30 ∷ k ∷ s) (formOf k s)

@@ -33,9 +33,13 @@ beginOf s =
     given (hexOf 0 (drop 12 s)) (λ d. Begin (thread t) o m (ticks d)))))
     else Malformed
 
+-- `tt` alone
+unfoldable pub threadOf : List ℕ → Number
+threadOf s = if eqb (length s) 2 then hexOf 0 s else None
+
 -- `02tt`
 unfoldable pub stepOf : List ℕ → Frame
-stepOf s = if eqb (length s) 2 then given (hexOf 0 s) (λ t. Step (thread t)) else Malformed
+stepOf s = given (threadOf s) (λ t. Step (thread t))
 
 -- `03nnnnnnnn`
 unfoldable pub advanceOf : List ℕ → Frame
@@ -43,7 +47,7 @@ advanceOf s = if eqb (length s) 8 then given (hexOf 0 s) (λ n. Advance (ticks n
 
 -- `04tt`
 unfoldable pub takeOf : List ℕ → Frame
-takeOf s = if eqb (length s) 2 then given (hexOf 0 s) (λ t. Take (thread t)) else Malformed
+takeOf s = given (threadOf s) (λ t. Take (thread t))
 
 -- The second digit names the form.
 unfoldable pub formOf : ℕ → List ℕ → Frame

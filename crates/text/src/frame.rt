@@ -1,6 +1,6 @@
 //! The frames that lines spell.
 ghost use mathlib.Core.Path.{_≡_};
-ghost use Rattle.text.specs.Frames.{headerOf, beginOf, stepOf, advanceOf, takeOf, parseOf};
+ghost use Rattle.text.specs.Frames.{headerOf, beginOf, threadOf, stepOf, advanceOf, takeOf, parseOf};
 ghost use Rattle.text.specs.Texts.{ReadWritten, WrittenRead};
 use crate::hex::Number;
 use crate::hex::hex;
@@ -74,14 +74,21 @@ fn begin(digits: &[u8]) -> Frame
     }
 }
 
+/// `tt`, and no more: a thread.
+fn thread_number(digits: &[u8]) -> Number
+    ensures { λ r. ⌜ r ≡ threadOf (now (digits .entry)) ⌝ }
+{
+    if digits.len() != 2 {
+        return Number::None;
+    }
+    hex(digits)
+}
+
 /// `tt` after `02`: the thread that makes a step.
 fn step(digits: &[u8]) -> Frame
     ensures { λ r. ⌜ r ≡ stepOf (now (digits .entry)) ⌝ }
 {
-    if digits.len() != 2 {
-        return Frame::Malformed;
-    }
-    match hex(digits) {
+    match thread_number(digits) {
         Number::Is(thread) => Frame::Step {
             thread: Thread(thread),
         },
@@ -106,10 +113,7 @@ fn advance(digits: &[u8]) -> Frame
 fn take(digits: &[u8]) -> Frame
     ensures { λ r. ⌜ r ≡ takeOf (now (digits .entry)) ⌝ }
 {
-    if digits.len() != 2 {
-        return Frame::Malformed;
-    }
-    match hex(digits) {
+    match thread_number(digits) {
         Number::Is(thread) => Frame::Take {
             thread: Thread(thread),
         },

@@ -48,13 +48,16 @@ const SOURCES: [Source; 6] = [
 ];
 
 /// Faults to put into the release's text on purpose, one at a time: each must be noticed (`try-breaks`).
-const BREAKS: [(&str, &str, &str); 10] = [
+const BREAKS: [(&str, &str, &str); 12] = [
     // Full without the head; Empty by the stamp alone.
     ("array", "if head.wrapping_add(self.one_lap) == tail {", "if head <= tail {"),
     ("array", "if (tail & !self.mark_bit) == head {\n                    // If the channel is disconnected...", "if true {"),
     // A stamp of the wrong lap; a length that forgets what has gone round.
     ("array", "token.array.stamp = head.wrapping_add(self.one_lap);", "token.array.stamp = head.wrapping_add(self.mark_bit);"),
     ("array", "self.cap - hix + tix", "self.cap - hix"),
+    // A failed exchange that does not load its word again.
+    ("array", "Err(_) => {\n                        backoff.spin_light();\n                        tail = self.tail.load(Ordering::Relaxed);", "Err(_) => {\n                        backoff.spin_light();"),
+    ("array", "Err(_) => {\n                        backoff.spin_light();\n                        head = self.head.load(Ordering::Relaxed);", "Err(_) => {\n                        backoff.spin_light();"),
     // The newest waiter is picked; a disconnect that times its waiters out.
     ("waker", ".iter()\n                .position(", ".iter()\n                .rposition("),
     ("waker", "if entry.cx.try_select(Selected::Disconnected).is_ok() {", "if entry.cx.try_select(Selected::Aborted).is_ok() {"),

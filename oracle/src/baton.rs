@@ -17,8 +17,9 @@ pub enum Access {
     Poll(usize),
     /// With the value to be stored.
     Store(usize, usize),
-    /// With the value that is expected.
-    Exchange(usize, usize),
+    Exchange,
+    /// With the value that is expected; it may fail though the word has that value.
+    WeakExchange(usize, usize),
     Mark,
     Message(usize),
     Lock,
@@ -32,6 +33,7 @@ enum State {
     Running,
     AtGate(Access),
     Go,
+    Fail,
     Quit,
     Ended(u8, u32),
 }
@@ -57,14 +59,19 @@ struct Unfinished;
 
 /// A worker waits here for its next step.
 pub fn gate(access: Access) {
-    let Some(seat) = OWN.with(|own| own.borrow().clone()) else { return };
+    fails_at(access);
+}
+
+/// The same; true where the schedule says that the step's weak exchange fails.
+pub fn fails_at(access: Access) -> bool {
+    let Some(seat) = OWN.with(|own| own.borrow().clone()) else { return false };
     seat.change(State::AtGate(access));
     let mut state = seat.turn.wait_while(seat.state.lock().unwrap(), |s| matches!(s, State::AtGate(_))).unwrap();
-    let quit = matches!(*state, State::Quit);
-    *state = State::Running;
+    let told = std::mem::replace(&mut *state, State::Running);
     drop(state);
-    if quit {
-        resume_unwind(Box::new(Unfinished));
+    match told {
+        State::Quit => resume_unwind(Box::new(Unfinished)),
+        told => matches!(told, State::Fail),
     }
 }
 
@@ -97,6 +104,12 @@ impl Worker {
     pub fn step(&self) -> Option<(u8, u32)> {
         self.seat.change(State::Go);
         self.settle()
+    }
+
+    /// Makes one step, whose weak exchange fails; no call ends by that.
+    pub fn fail(&self) {
+        self.seat.change(State::Fail);
+        self.settle();
     }
 
     /// The next step of a call that has not ended.

@@ -57,14 +57,24 @@ fn tell(name: &str, text: &[u8], (n, how): (usize, String)) {
     println!("{}", String::from_utf8_lossy(text));
 }
 
+/// How many of a text's lines `05tt` got this output.
+fn answered(text: &[u8], release: &[(Vec<u8>, Seen)], output: &[u8]) -> u64 {
+    let frames = text.split(|b| *b == b'\n').zip(release);
+    frames.filter(|(frame, (line, _))| frame.starts_with(b"05") && line == output).count() as u64
+}
+
 /// Compares on `count` random texts from `seed` on, and on every order of `length` steps of each pair of calls.
 pub fn compare(replay: &str, trace: &str, seed: u64, count: u64, length: u32) -> bool {
     let bench = Bench::new();
     let (mut texts, mut frames, mut fields) = (0u64, 0u64, 0u64);
+    let (mut asked, mut failed, mut refused) = (0u64, 0u64, 0u64);
     let mut same = |name: &str, text: &[u8]| {
         let release = bench.replay(text);
         texts += 1;
         frames += release.len() as u64;
+        asked += text.split(|b| *b == b'\n').any(|frame| frame.starts_with(b"05")) as u64;
+        failed += answered(text, &release, b"00");
+        refused += answered(text, &release, b"0e");
         fields += release.iter().map(|(_, seen)| seen.iter().flatten().count() as u64).sum::<u64>();
         let found = difference(&release, &written(replay, text), &written(trace, text));
         let none = found.is_none();
@@ -84,5 +94,6 @@ pub fn compare(replay: &str, trace: &str, seed: u64, count: u64, length: u32) ->
         }
     }
     println!("oracle: {texts} texts, {frames} frames, {fields} fields of records, no difference");
+    println!("oracle: {asked} of the texts with lines 05tt, by which {failed} exchanges failed; {refused} refused with 14");
     true
 }

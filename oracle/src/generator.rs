@@ -44,7 +44,7 @@ fn odd_line(r: &mut Random) -> String {
         2 => "020A".into(),
         3 => "0200\r".into(),
         4 => format!("02{}", digits(r, 2)),
-        5 => format!("04{}", digits(r, 2)),
+        5 => format!("0{}{}", r.one_of(&['4', '5']), digits(r, 2)),
         6 => format!("00{}", digits(r, 4)),
         7 => begin(r.below(256), r.below(256), 7, r.one_of(&[0, NO_DEADLINE])),
         8 => format!("03{}", r.one_of(&["ffffffff", "fffffffe", "7fffffff"])),
@@ -52,52 +52,93 @@ fn odd_line(r: &mut Random) -> String {
     }
 }
 
-/// A random text: threads begin calls, make steps in any order, and take their answers; some calls are made in one go.
+/// The channel of a random text, and the codes of the calls on it.
+struct Plan {
+    capacity: u64,
+    threads: u64,
+    codes: &'static [u64],
+}
+
+impl Plan {
+    fn new(r: &mut Random) -> Plan {
+        let array = r.once_in(2);
+        let capacity = match array {
+            false => 0,
+            true if r.once_in(4) => 1 + r.below(64),
+            true => r.one_of(&[1, 1, 2, 2, 3, 4, 5, 7, 8, 64]),
+        };
+        let fewest = if array { 1 } else { 2 };
+        let threads = if r.once_in(4) { fewest + r.below(9 - fewest) } else { 2 + r.below(3) };
+        let codes: &[u64] = match (array, r.below(3)) {
+            (true, 0) => &[1, 2],
+            (true, 1) => &[1, 1, 2, 2, 5, 6, 7, 8],
+            (true, _) => &[1, 2, 5, 6, 7, 8, 9],
+            (false, 0) => &[3, 4],
+            (false, 1) => &[1, 2, 3, 3, 4, 4],
+            (false, _) => &[1, 2, 3, 4, 3, 4, 5, 6, 7, 8, 9],
+        };
+        Plan { capacity, threads, codes }
+    }
+
+    /// The header, after a line or two that are refused.
+    fn heading(&self, r: &mut Random) -> Vec<String> {
+        let mut lines = Vec::new();
+        if r.once_in(20) {
+            lines.push(odd_line(r));
+        }
+        if r.once_in(8) {
+            lines.push(r.one_of(&["000000", "000001", "000009", "000100", "000109", "004101"]).into());
+        }
+        lines.push(format!("00{:02x}{:02x}", self.capacity, self.threads));
+        lines
+    }
+
+    fn call(&self, r: &mut Random, t: u64) -> String {
+        let code = r.one_of(self.codes);
+        let limit = if code == 3 || code == 4 { r.one_of(&[0, 3, 9, NO_DEADLINE, NO_DEADLINE]) } else { NO_DEADLINE };
+        begin(t, code, r.below(1 << 32), limit)
+    }
+
+    /// A call in one go, whose exchange may fail again and again.
+    fn whole_call(&self, r: &mut Random, t: u64, failures: u64) -> Vec<String> {
+        let mut lines = vec![self.call(r, t)];
+        while r.below(100) < 5 * failures {
+            lines.extend([format!("02{t:02x}"), format!("02{t:02x}"), format!("05{t:02x}")]);
+        }
+        lines.extend((0..5 + r.below(2)).map(|_| format!("02{t:02x}")));
+        lines.push(format!("04{t:02x}"));
+        lines
+    }
+}
+
+/// A random text: threads begin calls, make steps in any order, some with an exchange that fails, and take their answers; some calls
+/// are made in one go.
 pub fn text(seed: u64) -> Vec<u8> {
     let r = &mut Random::new(seed);
-    let array = r.once_in(2);
-    let capacity = match array {
-        false => 0,
-        true if r.once_in(4) => 1 + r.below(64),
-        true => r.one_of(&[1, 1, 2, 2, 3, 4, 5, 7, 8, 64]),
-    };
-    let fewest = if array { 1 } else { 2 };
-    let threads = if r.once_in(4) { fewest + r.below(9 - fewest) } else { 2 + r.below(3) };
-    let codes: &[u64] = match (array, r.below(3)) {
-        (true, 0) => &[1, 2],
-        (true, 1) => &[1, 1, 2, 2, 5, 6, 7, 8],
-        (true, _) => &[1, 2, 5, 6, 7, 8, 9],
-        (false, 0) => &[3, 4],
-        (false, 1) => &[1, 2, 3, 3, 4, 4],
-        (false, _) => &[1, 2, 3, 4, 3, 4, 5, 6, 7, 8, 9],
-    };
-    let mut lines = Vec::new();
-    if r.once_in(20) {
-        lines.push(odd_line(r));
-    }
-    if r.once_in(8) {
-        lines.push(r.one_of(&["000000", "000001", "000009", "000100", "000109", "004101"]).into());
-    }
-    lines.push(format!("00{capacity:02x}{threads:02x}"));
+    let plan = Plan::new(r);
+    let mut lines = plan.heading(r);
     let whole_calls = r.one_of(&[0, 2, 10]);
+    let failures = r.one_of(&[0, 3, 12]);
+    // Each thread's steps since A, as far as can be guessed: two on from there it may stand at C.
+    let mut since = [0; 8];
     for _ in 0..r.one_of(&[20, 100, 300]) {
-        let t = r.below(threads);
-        let call = |r: &mut Random| {
-            let code = r.one_of(codes);
-            let limit = if code == 3 || code == 4 { r.one_of(&[0, 3, 9, NO_DEADLINE, NO_DEADLINE]) } else { NO_DEADLINE };
-            begin(t, code, r.below(1 << 32), limit)
-        };
+        let t = r.below(plan.threads);
         match r.below(100) {
-            n if n < whole_calls => {
-                lines.push(call(r));
-                lines.extend((0..5 + r.below(2)).map(|_| format!("02{t:02x}")));
-                lines.push(format!("04{t:02x}"));
+            n if n < whole_calls => lines.extend(plan.whole_call(r, t, failures)),
+            10..24 => {
+                lines.push(plan.call(r, t));
+                since[t as usize] = 0;
             }
-            10..24 => lines.push(call(r)),
             24..34 => lines.push(format!("04{t:02x}")),
             34..36 => lines.push(format!("03{:08x}", r.below(4))),
             36 => lines.push(odd_line(r)),
-            _ => lines.push(format!("02{t:02x}")),
+            n if n >= 100 - failures => lines.push(format!("05{t:02x}")),
+            _ => {
+                let since = &mut since[t as usize];
+                let fails = *since == 2 && r.below(100) < 5 * failures;
+                *since = if fails { 0 } else { *since + 1 };
+                lines.push(format!("0{}{t:02x}", if fails { 5 } else { 2 }));
+            }
         }
     }
     let mut text = lines.join("\n").into_bytes();
@@ -122,7 +163,8 @@ fn starts(capacity: u64) -> Vec<Vec<String>> {
     vec![vec![], taken(whole(2, 1, 5)), stalled(1, 3), [taken(whole(2, 1, 5)), stalled(2, 3)].concat(), taken(whole(2, 9, 1))]
 }
 
-/// Every order of `length` steps of each pair of calls, from each start, with both answers taken.
+/// Every order of `length` steps of each pair of calls, from each start, with both answers taken; of sends and receives on an array also
+/// with each of the steps, one at a time, as a failing exchange.
 pub fn pairs(capacity: u64, length: u32) -> impl Iterator<Item = Vec<u8>> {
     let codes: Vec<u64> = if capacity == 0 { (1..=9).collect() } else { vec![1, 2, 5, 6, 7, 8, 9] };
     let mut firsts = Vec::new();
@@ -133,14 +175,16 @@ pub fn pairs(capacity: u64, length: u32) -> impl Iterator<Item = Vec<u8>> {
                 let mut lines = vec![format!("00{capacity:02x}03")];
                 lines.extend(start.clone());
                 lines.extend([begin(0, *a, 0xa, limit(*a)), begin(1, *b, 0xb, limit(*b))]);
-                firsts.push(lines);
+                let failing = if capacity > 0 && *a.max(b) <= 2 { length } else { 0 };
+                // No step fails in the last of these.
+                firsts.extend((0..=failing).map(|fails| (lines.clone(), if fails < failing { fails } else { length })));
             }
         }
     }
-    firsts.into_iter().flat_map(move |lines| {
+    firsts.into_iter().flat_map(move |(lines, fails)| {
         (0..1u32 << length).map(move |order| {
             let mut lines = lines.clone();
-            lines.extend((0..length).map(|i| format!("02{:02x}", order >> i & 1)));
+            lines.extend((0..length).map(|i| format!("0{}{:02x}", if i == fails { 5 } else { 2 }, order >> i & 1)));
             lines.extend(["0400", "0401", "0200", "0201", "0202", "0402"].map(String::from));
             (lines.join("\n") + "\n").into_bytes()
         })

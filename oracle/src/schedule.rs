@@ -183,18 +183,38 @@ impl Record {
         self.threads[t] = Thread::Running(call);
     }
 
-    fn step(&mut self, workers: &[Worker], t: usize) -> u8 {
-        if t >= self.threads.len() {
-            return 4;
+    /// Why a thread may not make a step; 0 if it may.
+    fn held_back(&self, t: usize) -> u8 {
+        match self.threads.get(t) {
+            None => 4,
+            Some(Thread::Running(_)) if self.steps >= 1_000_000 => 8,
+            Some(Thread::Running(_)) => 0,
+            Some(_) => 6,
         }
-        let Thread::Running(_) = self.threads[t] else { return 6 };
-        if self.steps >= 1_000_000 {
-            return 8;
+    }
+
+    fn step(&mut self, workers: &[Worker], t: usize) -> u8 {
+        let why = self.held_back(t);
+        if why != 0 {
+            return why;
         }
         self.steps += 1;
         if let Some((kind, value)) = workers[t].step() {
             self.threads[t] = Thread::Done(kind, value);
         }
+        self.place(workers, t);
+        0
+    }
+
+    /// A step whose weak exchange fails, if the release's next access is one.
+    fn fail(&mut self, workers: &[Worker], t: usize) -> u8 {
+        let why = self.held_back(t);
+        if why != 0 {
+            return why;
+        }
+        let Some(Access::WeakExchange(..)) = workers[t].next() else { return 14 };
+        self.steps += 1;
+        workers[t].fail();
         self.place(workers, t);
         0
     }
@@ -289,7 +309,7 @@ impl Record {
             self.threads.iter().position(owner).map(|t| t as u64)
         };
         match (call.place, next) {
-            (0x1c | 0x2c, Access::Exchange(_, expected)) => Some(expected as u64),
+            (0x1c | 0x2c, Access::WeakExchange(_, expected)) => Some(expected as u64),
             (0x1f, Access::Store(_, stamp)) => Some(stamp as u64 - 1),
             (0x2f, Access::Store(_, stamp)) => Some((stamp - lap) as u64),
             (0x31 | 0x41, Access::Message(at)) => whose(at, |packet| packet.message_at),
@@ -361,7 +381,7 @@ impl Bench {
         let widths: &[usize] = match line.get(..2) {
             Some(b"00") => &[2, 2],
             Some(b"01") => &[2, 2, 8, 8],
-            Some(b"02" | b"04") => &[2],
+            Some(b"02" | b"04" | b"05") => &[2],
             Some(b"03") => &[8],
             _ => return Err(11),
         };
@@ -386,6 +406,7 @@ impl Bench {
             b'1' => Err(r.begin(&self.workers, f[0] as usize, f[1], f[2], f[3])),
             b'2' => Err(r.step(&self.workers, f[0] as usize)),
             b'3' => Err(r.advance(f[0])),
+            b'5' => Err(r.fail(&self.workers, f[0] as usize)),
             _ => r.take(f[0] as usize),
         }
     }

@@ -92,11 +92,8 @@ macro_rules! atomics {
                 self.0.set(value)
             }
             pub fn compare_exchange(&self, old: T, new: T, _: Ordering, _: Ordering) -> Result<T, T> {
-                $change(Access::Exchange(self.address(), old.number()));
+                $change(Access::Exchange);
                 self.0.exchange(old, new)
-            }
-            pub fn compare_exchange_weak(&self, old: T, new: T, a: Ordering, b: Ordering) -> Result<T, T> {
-                self.compare_exchange(old, new, a, b)
             }
         }
 
@@ -123,8 +120,20 @@ fn poll(access: Access) {
 /// Every access is a step: the array's words and the packets' ready marks.
 pub mod gated {
     pub mod atomic {
+        use crate::baton::fails_at;
         use crate::stand_ins::gate;
         atomics!(gate, gate);
+
+        impl<T: Number> Atomic<T> {
+            /// Fails, whatever the word is, where the schedule says so.
+            pub fn compare_exchange_weak(&self, old: T, new: T, _: Ordering, _: Ordering) -> Result<T, T> {
+                if fails_at(Access::WeakExchange(self.address(), old.number())) {
+                    return Err(self.0.get());
+                }
+                self.0.exchange(old, new)
+            }
+        }
+
         pub fn fence(_: Ordering) {}
     }
 

@@ -37,7 +37,7 @@ module _ (S : Shape) where
       else if eqb (stamp .0 + S .lap) (tail .0 + 1) then goes (Send (send.LoadHead m tail))
       else goes (Send (send.LoadTail m))
 
-  -- (C) exchange tail for its successor, which is the send claim; failure goes to A
+  -- (C) exchange tail for its successor, which is the send claim; failure goes to A, that for no reason too (Weak.antt)
   abbrev pub sendClaimTail : ℕ → Position → Position → ArrayOutcome
   sendClaimTail m tail current =
       if eqb (current .0) (tail .0) then writes (ClaimSend (successor S tail)) (Goes (Send (send.StoreMessage m tail)))
@@ -75,7 +75,7 @@ receiveLoadStamp head stamp =
     else goes (Receive receive.LoadHead)
 
 module _ (S : Shape) where
-  -- (C) exchange head for its successor, the receive claim; failure goes to A
+  -- (C) exchange head for its successor, the receive claim; failure goes to A, that for no reason too (Weak.antt)
   abbrev pub receiveClaimHead : Position → Position → ArrayOutcome
   receiveClaimHead head current =
       if eqb (current .0) (head .0) then writes (ClaimReceive (successor S head)) (Goes (Receive (receive.TakeMessage head)))

@@ -20,6 +20,7 @@ pub mod call;
 pub mod outcome;
 pub mod receive;
 pub mod send;
+pub mod weak;
 
 /// The channel's shared memory.
 pub struct Array {

@@ -1,7 +1,7 @@
--- 01's table of refusals.
+-- 01's table of refusals, with #102's 14.
 use Prim.Native.Nat.{ℕ}
 use Rattle.bounds.specs.declared.refusal.Refusal.{Refusal}
-use Rattle.bounds.specs.declared.refusal.Refusal.the-variants.{OutOfForm, Capacity, ThreadCount, NoSuchThread, NotIdle, NotRunning, UnknownCall, StepLimit, ClockLimit, NoAnswer, Malformed, NoChannel, TooLong}
+use Rattle.bounds.specs.declared.refusal.Refusal.the-variants.{OutOfForm, Capacity, ThreadCount, NoSuchThread, NotIdle, NotRunning, UnknownCall, StepLimit, ClockLimit, NoAnswer, Malformed, NoChannel, TooLong, NoExchange}
 
 abbrev pub numberOf : Refusal → ℕ
 numberOf OutOfForm = 1
@@ -17,3 +17,4 @@ numberOf NoAnswer = 10
 numberOf Malformed = 11
 numberOf NoChannel = 12
 numberOf TooLong = 13
+numberOf NoExchange = 14

@@ -1,4 +1,4 @@
-//! The refusals of 01's table, and what a public call replies.
+//! The refusals of 01's table, with 02's 14, and what a public call replies.
 ghost use mathlib.Core.Path.{_≡_};
 ghost use Rattle.bounds.specs.Refusal.{numberOf};
 use channel::answer::Answer;
@@ -18,6 +18,7 @@ pub enum Refusal {
     Malformed,
     NoChannel,
     TooLong,
+    NoExchange,
 }
 
 /// What a public call replies: accepted, an accepted take's answer, or a refusal.
@@ -46,6 +47,7 @@ impl Refusal {
             Refusal::Malformed => 11,
             Refusal::NoChannel => 12,
             Refusal::TooLong => 13,
+            Refusal::NoExchange => 14,
         }
     }
 }

@@ -1,21 +1,24 @@
 -- Every public call keeps what histories keep.
 use Prim.Native.Nat.{ℕ, _<_, _≤_}
-use mathlib.Core.Path.{_≡_, refl, sym, subst}
+use mathlib.Core.Path.{_≡_, refl}
 use mathlib.Core.Logic.{_≢_}
 use mathlib.Core.List.{List}
 use native.Mathlib.Omega.{arith}
 use native.Mathlib.Decide.{ℕ-discrete, decLt}
 use lib.ListN.{getD, set, length, length-set, List·getD-eq-default}
 use lib.Seq.{getD-set-same, getD-set-other}
-use Rattle.array.specs.Array.{outcomeOf, arrayStep, applied}
+use Rattle.array.specs.ArrayOutcome.{goes}
+use Rattle.array.specs.Array.{outcomeOf, applied}
+use Rattle.array.specs.Weak.{failsTo}
 use Rattle.channel.specs.declared.answer.Tick.{Tick}
 use Rattle.channel.specs.declared.position.Shape.{Shape}
 use Rattle.array.specs.declared.Array.{Array as Memory}
 use Rattle.array.specs.declared.call.ArrayCall.{ArrayCall}
 use Rattle.array.specs.declared.outcome.ArrayOutcome.{ArrayOutcome}
+use Rattle.array.specs.declared.weak.Failure.the-variants.{Back}
+use Rattle.array.proofs.WeakLaws.{every-failure}
 use Rattle.schedule.specs.Record.{threadAt, placeOf, placeAfterArray, withThread, afterArray}
 use Rattle.places.specs.Begin.{codeOf, unlimited, startedArray, started}
-use Rattle.bounds.specs.Limits.{stepLimit}
 use Rattle.schedule.specs.History.{Moment, updated}
 use Rattle.places.specs.declared.begin.Code.{Code}
 use Rattle.places.specs.declared.begin.Code.the-variants.{Unknown, TrySend, TryReceive, Send, Receive, Len, IsEmpty, IsFull, IsDisconnected, Disconnect}
@@ -26,12 +29,13 @@ use Rattle.schedule.specs.declared.record.ThreadRecord.{ThreadRecord}
 use Rattle.schedule.specs.declared.record.Record.{Record}
 use Rattle.grown.proofs.Acts.{Cases, Onward}
 use Rattle.grown.proofs.Starts.{begun-at, never}
+use Rattle.grown.proofs.ArrayKept.{KeptArray}
 use Rattle.grown.proofs.ArrayMoves.{fits, array-moves}
-use Rattle.claims.specs.Claims.{Claims, Call, Past, count, madeBy, madeAt, steppedPast, begunCall, rule}
+use Rattle.claims.specs.Claims.{Claims, Call, Past, count, madeBy, steppedPast, begunCall, rule}
 use Rattle.grown.proofs.Updates.{updated-here, updated-else}
 use Rattle.claims.proofs.Owners.{adds-begun, same-claims, owners-after}
 use Rattle.claims.proofs.Knows.{Stands}
-use Rattle.claims.proofs.Good.{Good}
+use Rattle.claims.proofs.Good.{Good, to}
 use Rattle.claims.proofs.QuestionSteps.{every-good}
 use Rattle.claims.proofs.Stable.{stable}
 use Rattle.claims.proofs.Inv.{StandsAt, Inv}
@@ -75,16 +79,16 @@ module _ (capacity : ℕ) (M : Moment Past) (I : Inv capacity M) where
   abbrev h : Past
   h = M .past
 
-  -- The moments after thread t has begun a call, and after a step of the call k at a place.
+  -- The moments after thread t has begun a call, and after a step of its call that does what an outcome says.
   abbrev afterBegin : ℕ → Call → Place → Moment Past
   afterBegin t a p =
       record { now = withThread r t p; past = record { claims = h .claims; calls = updated (h .calls) t a } }
 
-  abbrev afterStep : ℕ → ArrayCall → Place → Moment Past
-  afterStep t k p =
+  abbrev afterStep : ℕ → ArrayOutcome → Moment Past
+  afterStep t o =
       record {
-        now = afterArray r t (arrayStep (r .shape) (r .array) k);
-        past = steppedPast r h t (madeAt r (h .claims) (h .calls t) p);
+        now = afterArray r t (record { array = applied (r .array) (o .effect); next = o .next });
+        past = steppedPast r h t (madeBy r (h .claims) (h .calls t) (o .effect));
       }
 
   begun : (t x m : ℕ) (l : List ℕ) (d : Tick) (p : Place) → t < r .count → placeOf r t ≡ Idle →
@@ -108,18 +112,18 @@ module _ (capacity : ℕ) (M : Moment Past) (I : Inv capacity M) where
       first : Call
       first = begunCall (codeOf x) m l
 
-  stepped : (t : ℕ) (k : ArrayCall) → t < r .count → r .steps < stepLimit → placeOf r t ≡ Array k →
-      Inv capacity (afterStep t k (Array k))
-  stepped t k few limit e =
+  stepped : (t : ℕ) (k : ArrayCall) (o : ArrayOutcome) → placeOf r t ≡ Array k → Good r h t o →
+      KeptArray (afterStep t o .now) → Inv capacity (afterStep t o)
+  stepped t k o e good kept =
       record {
-        kept = array-moves r (I .kept) .array t k few limit e;
+        kept = kept;
         sized = I .sized;
         core = good .change .core;
         owners =
             owners-after (h .claims) (x .0) (h .calls) t (x .1) (I .owners) (good .change .adds)
-            (afterStep t k (Array k) .past .calls) (λ σ u. same-claims (placeOf r u) (count (x .0)) _ σ);
+            (afterStep t o .past .calls) (λ σ u. same-claims (placeOf r u) (count (x .0)) _ σ);
         stands = λ u.
-            placed (StandsAt (afterStep t k (Array k)) u) (r .threads) t u (placeAfterArray (o .next)) tt
+            placed (StandsAt (afterStep t o) u) (r .threads) t u (placeAfterArray (o .next)) tt
             (λ z. rw (z, e, updated-here (h .calls) t (x .1)) (good .stands))
             (λ n.
             rw (updated-else (h .calls) t (x .1) u n)
@@ -128,17 +132,21 @@ module _ (capacity : ℕ) (M : Moment Past) (I : Inv capacity M) where
             (placeOf r u) (I .stands u)));
       }
     where
-      o : ArrayOutcome
-      o = outcomeOf (r .shape) (r .array) k
-
       x : Claims × Call
       x = madeBy r (h .claims) (h .calls t) (o .effect)
 
-      knows : StandsAt M t (Array k)
-      knows = rw e at (I .stands t)
+  -- What a call knows where it stands makes its step good, and a failure of its exchange.
+  knows : (t : ℕ) (k : ArrayCall) → placeOf r t ≡ Array k → StandsAt M t (Array k)
+  knows t k e = rw e at (I .stands t)
 
-      good : Good r h t o
-      good = every-good r h t (fits r (I .kept)) (I .core) (I .owners) k (knows .0) (knows .1)
+  steps-good : (t : ℕ) (k : ArrayCall) → placeOf r t ≡ Array k → Good r h t (outcomeOf (r .shape) (r .array) k)
+  steps-good t k e =
+      every-good r h t (fits r (I .kept)) (I .core) (I .owners) k (knows t k e .0) (knows t k e .1)
+
+  fails-good : (t : ℕ) (k j : ArrayCall) → failsTo k ≡ Back j → StandsAt M t (Array k) → Good r h t (goes j)
+  fails-good t =
+      every-failure (λ k j. StandsAt M t (Array k) → Good r h t (goes j)) (λ m w a. to r h t (I .core) _ (a .0, a .1 .0))
+      (λ w a. to r h t (I .core) _ (a .0, a .1 .0))
 
   pub moves : Cases r (Onward rule (Inv capacity) M)
   moves =
@@ -146,8 +154,12 @@ module _ (capacity : ℕ) (M : Moment Past) (I : Inv capacity M) where
         refuse = λ a n. I;
         begin = λ t x m d p. begun (t .0) x m _ d p;
         array = λ t k few limit e.
-            subst (λ (p : Place). Inv capacity (afterStep (t .0) k p)) (sym e) (stepped (t .0) k few limit e);
+            rw e
+            (stepped (t .0) k _ e (steps-good (t .0) k e) (array-moves r (I .kept) .array (t .0) k few limit e));
         zero = λ t k few limit e. absurd (rw e at (I .stands (t .0)));
+        fail = λ t k j few limit e f.
+            stepped (t .0) k (goes j) e (fails-good (t .0) k j f (knows (t .0) k e))
+            (array-moves r (I .kept) .fail (t .0) k j few limit e f);
         advance = λ n l.
             record {
               kept = array-moves r (I .kept) .advance (n .0) l;

@@ -19,8 +19,8 @@ use Rattle.places.specs.Begin.{codeOf, noDeadline}
 use Rattle.forms.specs.FormSaved.{shapeInForm, tailInForm, wordInForm, slotInForm}
 use Rattle.forms.specs.FormWaits.{standsOn, timesIn, entryInForm, queueInForm}
 use Rattle.schedule.specs.Form.{arrayInForm, zeroInForm, slotsInForm, queuesInForm, standsInForm, threadInForm, threadsInForm, inForm}
-use Rattle.schedule.specs.Calls.{begun, begunInForm, stepped, steppedInForm, taken, takenInForm}
-use Rattle.schedule.specs.History.{Act, begins, steps, takes, Moment, reached, updated}
+use Rattle.schedule.specs.Calls.{begun, begunInForm, stepped, steppedInForm, failed, failedInForm, taken, takenInForm}
+use Rattle.schedule.specs.History.{Act, begins, steps, fails, takes, Moment, reached, updated}
 use Rattle.places.specs.declared.begin.Code.{Code}
 use Rattle.places.specs.declared.begin.Code.the-variants.{TrySend, TryReceive, Len, IsEmpty, IsFull}
 use Rattle.places.specs.declared.place.Place.the-variants.{Done}
@@ -30,7 +30,11 @@ use Rattle.claims.specs.Claims.{Past, momentAfter}
 abbrev call : ℕ → ℕ → ℕ → ℕ → List Act
 call t x m n = begins (thread t) x m (ticks noDeadline) ∷ replicate n (steps (thread t))
 
--- The same, and its answer taken: thread 0 sends m, thread 1 receives, thread 0 disconnects.
+-- The same, with an exchange that fails after its second step.
+abbrev failing : ℕ → ℕ → ℕ → ℕ → List Act
+failing t x m n = call t x m 2 ++ (fails (thread t) ∷ replicate n (steps (thread t)))
+
+-- A call in one go, and its answer taken: thread 0 sends m, thread 1 receives, thread 0 disconnects.
 abbrev whole : ℕ → ℕ → ℕ → ℕ → List Act
 whole t x m n = call t x m n ++ (takes (thread t) ∷ [])
 
@@ -70,9 +74,15 @@ pub record Reachable : Type 0 where
   pub receive-claims : moment (sent 42 ++ received ++ sent 43 ++ call 1 2 0 5) .past .calls 1 .receiveClaims ≡ 1 ∷ []
   -- The moments of a call are its own, from its begin on, with every step between.
   pub counts : moment (sent 42 ++ received ++ call 1 5 0 1 ++ sent 43) .past .calls 1 .counts ≡ 1 ∷ 1 ∷ 1 ∷ 0 ∷ 0 ∷ 0 ∷ 0 ∷ []
+  -- A failed exchange claims nothing, is a moment of its call, and the call goes round; at another place it is refused and no moment.
+  pub fails-first : moment (failing 1 1 7 0) .past .calls 1 .sendClaims ≡ []
+  pub fails-and-sends : Answers (failing 1 1 7 5) TrySend Sent
+  pub fails-and-receives : Answers (sent 42 ++ failing 1 2 0 5) TryReceive (Received 42)
+  pub failure-counts : moment (failing 1 1 7 0) .past .calls 1 .counts ≡ 0 ∷ 0 ∷ 0 ∷ 0 ∷ []
+  pub refused-counts : moment (call 1 1 7 1 ++ (fails (thread 1) ∷ [])) .past .calls 1 .counts ≡ 0 ∷ 0 ∷ []
 
 pub reachable : Reachable
-unfolding if_then_else_ queueOf doubledTo markOf successor unmarked stampsFrom lengthOf allBelow madeArray codeOf shapeInForm tailInForm wordInForm slotInForm standsOn timesIn entryInForm queueInForm arrayInForm zeroInForm slotsInForm queuesInForm standsInForm threadInForm threadsInForm inForm begun begunInForm stepped steppedInForm taken takenInForm reached updated
+unfolding if_then_else_ queueOf doubledTo markOf successor unmarked stampsFrom lengthOf allBelow madeArray codeOf shapeInForm tailInForm wordInForm slotInForm standsOn timesIn entryInForm queueInForm arrayInForm zeroInForm slotsInForm queuesInForm standsInForm threadInForm threadsInForm inForm begun begunInForm stepped steppedInForm failed failedInForm taken takenInForm reached updated
 reachable =
     record {
       fresh = refl;
@@ -92,4 +102,9 @@ reachable =
       send-claims = refl;
       receive-claims = refl;
       counts = refl;
+      fails-first = refl;
+      fails-and-sends = (refl, refl);
+      fails-and-receives = (refl, refl);
+      failure-counts = refl;
+      refused-counts = refl;
     }

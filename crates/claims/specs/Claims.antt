@@ -7,7 +7,7 @@ use Rattle.array.specs.declared.outcome.ArrayEffect.{ArrayEffect}
 use Rattle.array.specs.declared.outcome.ArrayEffect.the-variants.{Nothing, ClaimSend, ClaimReceive, StoreMessage, TakeMessage, StoreStamp, MarkTail}
 use Rattle.schedule.specs.Record.{placeOf}
 use Rattle.places.specs.Begin.{codeOf, carriedBy}
-use Rattle.schedule.specs.History.{Act, begins, steps, advances, takes, Moment, reached, updated}
+use Rattle.schedule.specs.History.{Act, begins, steps, fails, advances, takes, Moment, reached, updated}
 use Rattle.places.specs.declared.begin.Code.{Code}
 use Rattle.places.specs.declared.begin.Code.the-variants.{Unknown}
 use Rattle.places.specs.declared.place.Place.{Place}
@@ -127,7 +127,7 @@ steppedPast r h t x =
 abbrev pub begunCall : Code → ℕ → List ℕ → Call
 begunCall k m l = record { code = k; carried = carriedBy k m; counts = l; sendClaims = []; receiveClaims = [] }
 
--- What an accepted call adds.
+-- What an accepted call adds; an exchange that fails is a step that claims nothing.
 abbrev pub rule : Record → Past → Act → Past
 rule r h (begins t x m d) =
     record {
@@ -135,6 +135,7 @@ rule r h (begins t x m d) =
       calls = updated (h .calls) (t .0) (begunCall (codeOf x) m (count (h .claims) ∷ []));
     }
 rule r h (steps t) = steppedPast r h (t .0) (madeAt r (h .claims) (h .calls (t .0)) (placeOf r (t .0)))
+rule r h (fails t) = steppedPast r h (t .0) (h .claims, h .calls (t .0))
 rule r h (advances n) = h
 rule r h (takes t) = h
 

@@ -147,7 +147,7 @@ module _ (S : Shape) (F : Fits S) (B : ℕ) where
     either true p q = p refl
     either false p q = q refl
 
-    to : (k : ArrayCall) → CallSaved S next k → Good (goes k)
+    pub to : (k : ArrayCall) → CallSaved S next k → Good (goes k)
     to k h = record { memory = later; place = h }
 
     over : (x : Answer) → Good (ends x)

@@ -126,6 +126,7 @@ module _ (r : Record) (k : KeptZero r) where
             moved t Idle p l e (λ w k h. h) idle-quiet (first-place m d p (codeOf c) (rw (k .flavour) at s));
         array = λ t c l few e. absurd (rw e at (k .orderly .uses t));
         zero = stepped;
+        fail = λ t c d l few e f. absurd (rw e at (k .orderly .uses t));
         advance = λ n l.
             record {
               flavour = k .flavour;

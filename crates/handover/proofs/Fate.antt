@@ -24,7 +24,7 @@ use Rattle.zero.specs.declared.outcome.ZeroNext.the-variants.{Goes}
 use Rattle.zero.specs.declared.outcome.ZeroOutcome.{ZeroOutcome}
 use Rattle.schedule.specs.Record.{placeOf}
 use Rattle.forms.specs.FormWaits.{awaits, partnerOf, timesIn}
-use Rattle.schedule.specs.History.{Act, begins, steps, advances, takes, Moment, next}
+use Rattle.schedule.specs.History.{Act, begins, steps, fails, advances, takes, Moment, next}
 use Rattle.forms.specs.declared.waits.Partner.the-variants.{Of}
 use Rattle.places.specs.declared.place.Place.the-variants.{Zero}
 use Rattle.grown.proofs.Departures.{unlike}
@@ -117,6 +117,7 @@ module _ (M : Moment Past) (I : Inv M) where
 
     pub goes-on : (a : Act) → Goes-on (next rule M a) a
     goes-on (begins u c m e) = others (begins u c m e) (λ g. let z : _≡_ {A = ℕ} 0 1 = cc in omega arith)
+    goes-on (fails u) = others (fails u) (λ g. let z : _≡_ {A = ℕ} 0 1 = cc in omega arith)
     goes-on (advances e) = others (advances e) (λ g. let z : _≡_ {A = ℕ} 0 1 = cc in omega arith)
     goes-on (takes u) = others (takes u) (λ g. let z : _≡_ {A = ℕ} 0 1 = cc in omega arith)
     goes-on (steps u) = go (ℕ-discrete (u .0) t)

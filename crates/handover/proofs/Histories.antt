@@ -29,6 +29,7 @@ module _ (M : Moment Past) (I : Inv M) where
         begin = λ t c m d p l e s. begin-all M I t m d p c l e (rw (I .kept .flavour) at s);
         array = λ t k l few e. absurd (rw e at (I .self (t .0)));
         zero = λ t k l few e. rw e (every-step M I t l k e);
+        fail = λ t k j l few e f. absurd (rw e at (I .self (t .0)));
         advance = λ n l. rest-all M I _ refl (omega arith) _ (λ u. refl);
         take = λ t a l e. take-all M I t a l e;
       }
@@ -44,6 +45,7 @@ module _ (M : Moment Past) (I : Inv M) where
         begin = λ t c m d p l e s. record { kept = K .begin (t .0) c m d p l e s; self = cases .begin t c m d p l e s .self };
         array = λ t k l few e. absurd (rw e at (I .self (t .0)));
         zero = λ t k l few e. record { kept = K .zero t k l few e; self = cases .zero t k l few e .self };
+        fail = λ t k j l few e f. absurd (rw e at (I .self (t .0)));
         advance = λ n l. record { kept = K .advance (n .0) l; self = cases .advance n l .self };
         take = λ t a l e. record { kept = K .take (t .0) a l e; self = cases .take t a l e .self };
       }

@@ -18,3 +18,4 @@ pub mod Order
 pub mod Meeting
 pub mod Fate
 pub mod Law
+pub mod Exchanges

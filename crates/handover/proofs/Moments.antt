@@ -61,6 +61,7 @@ module _ (M : Moment Past) (t : Thread) (k : ZeroCall) (at : placeOf (M .now) (t
             let s : u ≡ t = cc in
             let f : Zero k ≡ Zero c = sym at ∙ ap (λ (u : Thread). placeOf (M .now) (u .0)) (sym s) ∙ e in
             rw e (go u c s (let h : k ≡ c = cc in sym h) l);
+        fail = λ u c j l few e f g. absurd (let z : _≡_ {A = ℕ} 0 1 = cc in omega arith);
         advance = λ n l g. absurd (let z : _≡_ {A = ℕ} 0 1 = cc in omega arith);
         take = λ u a l e g. absurd (let z : _≡_ {A = ℕ} 0 1 = cc in omega arith);
       })

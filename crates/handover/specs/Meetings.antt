@@ -21,7 +21,7 @@ use Rattle.zero.specs.declared.outcome.ZeroEffect.the-variants as effect
 use Rattle.schedule.specs.Record.{placeOf}
 use Rattle.places.specs.Begin.{codeOf, carriedBy}
 use Rattle.forms.specs.FormWaits.{sameSide}
-use Rattle.schedule.specs.History.{Act, begins, steps, advances, takes, Moment, reached, updated}
+use Rattle.schedule.specs.History.{Act, begins, steps, fails, advances, takes, Moment, reached, updated}
 use Rattle.places.specs.declared.begin.Code.{Code}
 use Rattle.places.specs.declared.begin.Code.the-variants as code
 use Rattle.places.specs.declared.place.Place.{Place}
@@ -193,10 +193,11 @@ broughtAt r h t (Array k) = h
 broughtAt r h t (Zero k) = brought r h t k (outcomeOf (r .zero) (thread t) (r .clock) k .effect)
 broughtAt r h t (Done a) = h
 
--- What an accepted call adds.
+-- What an accepted call adds; no exchange fails on a rendezvous.
 abbrev pub rule : Record → Past → Act → Past
 rule r h (begins t c m d) = begunCall h (t .0) (codeOf c) m (d .0)
 rule r h (steps t) = broughtAt r h (t .0) (placeOf r (t .0))
+rule r h (fails t) = h
 rule r h (advances n) = h
 rule r h (takes t) = h
 

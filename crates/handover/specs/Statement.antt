@@ -24,13 +24,15 @@ use Rattle.zero.specs.declared.call.Question.{Question}
 use Rattle.zero.specs.declared.call.Question.the-variants.{Len, Disconnect}
 use Rattle.zero.specs.declared.call.ZeroCall.{ZeroCall}
 use Rattle.zero.specs.declared.call.ZeroCall.the-variants.{First, Wait, ReadyWait, Leave, Ask}
-use Rattle.schedule.specs.Record.{placeOf, acceptedAs}
+use Rattle.schedule.specs.Record.{placeOf, acceptedAs, refusedWith}
 use Rattle.schedule.specs.Making.{madeZero}
 use Rattle.forms.specs.FormWaits.{awaits, zeroPartner, partnerOf, timesIn}
-use Rattle.schedule.specs.History.{Act, steps, actOn, Moment, next}
+use Rattle.schedule.specs.Calls.{failed}
+use Rattle.schedule.specs.History.{Act, steps, actOn, after, Moment, next}
 use Rattle.forms.specs.declared.waits.Partner.the-variants.{Of}
 use Rattle.places.specs.declared.place.Place.the-variants.{Zero, Done}
 use Rattle.schedule.specs.declared.record.Record.{Record}
+use Rattle.bounds.specs.declared.refusal.Refusal.{Refusal}
 use Rattle.bounds.specs.declared.refusal.Reply.the-variants as reply
 use Rattle.handover.specs.Meetings.{Past, tryCode, waitCode, askCode, pairOf, senderOf, wordAt, packetOf, rule, momentAfter}
 
@@ -179,3 +181,9 @@ pub record Holds (M : Moment Past) : Type 0 where
 -- Whatever is called on a fresh rendezvous, refused calls among it.
 abbrev pub HandoverLaw : Type 0
 HandoverLaw = (n : ℕ) (r : Record) → madeZero n ≡ acceptedAs r → (l : List Act) → Holds (momentAfter r l)
+
+-- #102: no exchange fails here. Whatever is called on a fresh rendezvous, fail is refused, and so in no history that `HandoverLaw`
+-- speaks of is it accepted.
+abbrev pub NoneFails : Type 0
+NoneFails = (n : ℕ) (r : Record) → madeZero n ≡ acceptedAs r → (l : List Act) (t : Thread) →
+    (x : Refusal) × (failed (after r l) t ≡ refusedWith (after r l) x)

@@ -1,18 +1,23 @@
--- What it tells that a call goes on: the thread stands in it, and the step limit is not reached.
+-- What it tells that a call goes on, or goes back: the thread stands in it, and the step limit is not reached.
 use Prim.Native.Nat.{ℕ, _<_}
-use mathlib.Core.Path.{_≡_, refl, sym, subst, _∙_}
+use mathlib.Core.Path.{_≡_, refl, sym, ap, subst, _∙_}
 use mathlib.Core.Bool.{Bool, true, false}
 use lib.Dec.{leb}
 use borrow.Author.Tests.{leb-false}
 use Rattle.waker.specs.Choice.{if_then_else_}
+use Rattle.array.specs.Weak.{failsTo}
 use Rattle.array.specs.declared.call.ArrayCall.{ArrayCall}
+use Rattle.array.specs.declared.weak.Failure.{Failure}
+use Rattle.array.specs.declared.weak.Failure.the-variants as failure
 use Rattle.zero.specs.declared.call.ZeroCall.{ZeroCall}
 use Rattle.bounds.specs.Limits.{stepLimit, stepping}
 use Rattle.bounds.specs.declared.limits.Verdict.the-variants as verdict
 use Rattle.bounds.specs.declared.refusal.Refusal.the-variants.{StepLimit}
-use Rattle.places.specs.Turn.{limited, goesOn}
+use Rattle.places.specs.Turn.{limited, goesOn, failsBack, failsFrom}
 use Rattle.places.specs.declared.place.Place.{Place}
 use Rattle.places.specs.declared.place.Place.the-variants.{Idle, Array, Zero, Done}
+use Rattle.places.specs.declared.turn.Failing.{Failing}
+use Rattle.places.specs.declared.turn.Failing.the-variants as failing
 use Rattle.places.specs.declared.turn.Running.{Running}
 use Rattle.places.specs.declared.turn.Running.the-variants as running
 
@@ -43,3 +48,22 @@ module _ (p : Place) (s : ℕ) {u : Running} (e : u ≡ goesOn p s) where
 
   pub goes-zero : (k : ZeroCall) → u ≡ running.Zero k → (p ≡ Zero k) × (s < stepLimit)
   goes-zero k f = subst (Told p s) (sym e ∙ f) (goes-on p s)
+
+-- A call that goes back.
+abbrev FailTold : ℕ → Failing → Type 0
+FailTold s (failing.Refused n) = Unit
+FailTold s (failing.Back k) = s < stepLimit
+
+fails-back : (s : ℕ) (f : Failure) → s < stepLimit → FailTold s (failsBack f)
+fails-back s failure.None l = tt
+fails-back s (failure.Back k) l = l
+
+fails-from : (p : Place) (s : ℕ) → FailTold s (failsFrom (goesOn p s))
+fails-from Idle s = tt
+fails-from (Array k) s = either-side (λ y. FailTold s (failsFrom y)) s (running.Array k) tt (fails-back s (failsTo k))
+fails-from (Zero k) s = either-side (λ y. FailTold s (failsFrom y)) s (running.Zero k) tt (λ l. tt)
+fails-from (Done a) s = tt
+
+pub goes-back : (p : Place) (s : ℕ) {y : Running} {u : Failing} → y ≡ goesOn p s → u ≡ failsFrom y → (k : ArrayCall) →
+    u ≡ failing.Back k → s < stepLimit
+goes-back p s e g k f = subst (FailTold s) (ap failsFrom (sym e) ∙ sym g ∙ f) (fails-from p s)

@@ -1,14 +1,19 @@
--- Begin, step and take, by where the thread stands: 01's refusals 5, 6, 7, 8 and 10.
+-- Begin, step, fail and take, by where the thread stands: 01's refusals 5, 6, 7, 8 and 10, and 14.
 use Prim.Native.Nat.{ℕ}
+use Rattle.array.specs.Weak.{failsTo}
+use Rattle.array.specs.declared.weak.Failure.{Failure}
+use Rattle.array.specs.declared.weak.Failure.the-variants as failure
 use Rattle.bounds.specs.Limits.{stepping}
 use Rattle.bounds.specs.declared.limits.Verdict.{Verdict}
 use Rattle.bounds.specs.declared.limits.Verdict.the-variants as verdict
-use Rattle.bounds.specs.declared.refusal.Refusal.the-variants.{NotIdle, NotRunning, UnknownCall, NoAnswer}
+use Rattle.bounds.specs.declared.refusal.Refusal.the-variants.{NotIdle, NotRunning, UnknownCall, NoAnswer, NoExchange}
 use Rattle.bounds.specs.declared.refusal.Reply.the-variants as reply
 use Rattle.places.specs.declared.begin.Start.{Start}
 use Rattle.places.specs.declared.begin.Start.the-variants.{None, At}
 use Rattle.places.specs.declared.place.Place.{Place}
 use Rattle.places.specs.declared.place.Place.the-variants.{Idle, Array, Zero, Done}
+use Rattle.places.specs.declared.turn.Failing.{Failing}
+use Rattle.places.specs.declared.turn.Failing.the-variants as failing
 use Rattle.places.specs.declared.turn.Running.{Running}
 use Rattle.places.specs.declared.turn.Running.the-variants as running
 use Rattle.places.specs.declared.turn.Turn.{Turn}
@@ -37,6 +42,16 @@ goesOn Idle s = running.Refused NotRunning
 goesOn (Array k) s = limited (stepping s) (running.Array k)
 goesOn (Zero k) s = limited (stepping s) (running.Zero k)
 goesOn (Done a) s = running.Refused NotRunning
+
+-- Fail (#102): refused as a step would be, else back from its weak exchange. 14: it does not stand at one; a rendezvous has none.
+abbrev pub failsBack : Failure → Failing
+failsBack failure.None = failing.Refused NoExchange
+failsBack (failure.Back k) = failing.Back k
+
+abbrev pub failsFrom : Running → Failing
+failsFrom (running.Refused n) = failing.Refused n
+failsFrom (running.Array k) = failsBack (failsTo k)
+failsFrom (running.Zero k) = failing.Refused NoExchange
 
 -- Take. 10: no finished answer. A taken answer frees the thread.
 abbrev pub takenFrom : Place → Turn

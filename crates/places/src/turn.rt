@@ -1,10 +1,11 @@
-//! What begin, step and take make of a thread that is there, by where it stands.
+//! What begin, step, fail and take make of a thread that is there, by where it stands.
 ghost use mathlib.Core.Path.{_≡_};
 ghost use Rattle.bounds.specs.Limits.{stepping};
-ghost use Rattle.places.specs.Turn.{startedFrom, begunFrom, limited, goesOn, takenFrom};
+ghost use Rattle.places.specs.Turn.{startedFrom, begunFrom, limited, goesOn, failsBack, failsFrom, takenFrom};
 use crate::begin::Start;
 use crate::place::Place;
 use array::call::ArrayCall;
+use array::weak::Failure;
 use bounds::limits;
 use bounds::limits::Verdict;
 use bounds::refusal::Refusal;
@@ -22,6 +23,12 @@ pub enum Running {
     Refused(Refusal),
     Array(ArrayCall),
     Zero(ZeroCall),
+}
+
+/// Where a failed exchange takes a call, or its refusal.
+pub enum Failing {
+    Refused(Refusal),
+    Back(ArrayCall),
 }
 
 /// An idle thread begins a call, where the channel has it.
@@ -69,6 +76,27 @@ pub fn step(place: Place, steps: u32) -> Running
         Place::Array(call) => limited(steps, Running::Array(call)),
         Place::Zero(call) => limited(steps, Running::Zero(call)),
         Place::Done(_) => Running::Refused(Refusal::NotRunning),
+    }
+}
+
+/// Its weak exchange fails, if the call stands at one.
+fn fail_back(failure: Failure) -> Failing
+    ensures { λ r. ⌜ r ≡ failsBack failure ⌝ }
+{
+    match failure {
+        Failure::None => Failing::Refused(Refusal::NoExchange),
+        Failure::Back(call) => Failing::Back(call),
+    }
+}
+
+/// Fail: what step would refuse is refused first; a rendezvous has no weak exchange.
+pub fn fail(running: Running) -> Failing
+    ensures { λ r. ⌜ r ≡ failsFrom running ⌝ }
+{
+    match running {
+        Running::Refused(refusal) => Failing::Refused(refusal),
+        Running::Array(call) => fail_back(call.fail()),
+        Running::Zero(_) => Failing::Refused(Refusal::NoExchange),
     }
 }
 

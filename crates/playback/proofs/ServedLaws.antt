@@ -24,16 +24,16 @@ use Rattle.schedule.specs.Record.{refusedWith}
 use Rattle.schedule.specs.Record as schedule
 use Rattle.schedule.specs.Making.{zeroRecord, freshArrayRecord, freshZeroRecord, made, madeArray, madeZero}
 use Rattle.schedule.specs.Calls.{formed}
-use Rattle.schedule.specs.History.{Act, begins, steps, advances, takes, actOn, after, Fresh, fresh-array, fresh-zero}
+use Rattle.schedule.specs.History.{Act, begins, steps, fails, advances, takes, actOn, after, Fresh, fresh-array, fresh-zero}
 use Rattle.schedule.specs.declared.record.Record.{Record}
 use Rattle.schedule.specs.declared.record.Replied.{Replied}
 use Rattle.text.specs.Hex.{hexOf}
-use Rattle.text.specs.Frames.{given, headerOf, beginOf, threadOf, stepOf, advanceOf, takeOf, formOf, parseOf}
+use Rattle.text.specs.Frames.{given, headerOf, beginOf, threadOf, stepOf, advanceOf, takeOf, failOf, formOf, parseOf}
 use Rattle.text.specs.Output.{codeLine, tookLine, Put}
 use Rattle.text.specs.declared.hex.Number.{Number}
 use Rattle.text.specs.declared.hex.Number.the-variants as number
 use Rattle.text.specs.declared.frame.Frame.{Frame}
-use Rattle.text.specs.declared.frame.Frame.the-variants.{Header, Begin, Step, Advance, Take, Malformed}
+use Rattle.text.specs.declared.frame.Frame.the-variants.{Header, Begin, Step, Advance, Take, Fail, Malformed}
 use Rattle.grown.proofs.Tests.{clash}
 use Rattle.grown.proofs.Acts.{every-reply}
 use Rattle.grown.proofs.Grown.{grown-in-form}
@@ -114,6 +114,7 @@ grown-served h (Begin t c m d) g = grown-on h g (begins t c m d)
 grown-served h (Step t) g = grown-on h g (steps t)
 grown-served h (Advance n) g = grown-on h g (advances n)
 grown-served h (Take t) g = grown-on h g (takes t)
+grown-served h (Fail t) g = grown-on h g (fails t)
 grown-served h Malformed g = g
 
 pub line-room : (y : Reply) → length (replyLine y) ≤ 13
@@ -144,6 +145,7 @@ making-long c n = both long 3 _ _ _ (made-long (making Zero 0 n) _) (made-long (
 abbrev roomFor : Act → ℕ
 roomFor (begins t c m d) = 3
 roomFor (steps t) = 3
+roomFor (fails t) = 3
 roomFor (advances n) = 3
 roomFor (takes t) = 13
 
@@ -155,6 +157,7 @@ call-long r =
       begin = λ t c m d p l e f. lit≤ tt;
       array = λ t k l few e. lit≤ tt;
       zero = λ t k l few e. lit≤ tt;
+      fail = λ t k j l few e f. lit≤ tt;
       advance = λ n l. lit≤ tt;
       take = λ t a l e. lit≤ tt;
     })
@@ -162,6 +165,7 @@ call-long r =
     refused : (a : Act) (n : Refusal) → long (refusedWith r n) ≤ roomFor a
     refused (begins t c m d) n = lit≤ tt
     refused (steps t) n = lit≤ tt
+    refused (fails t) n = lit≤ tt
     refused (advances k) n = lit≤ tt
     refused (takes t) n = lit≤ tt
 
@@ -172,6 +176,7 @@ taking (Begin t c m d) = 0
 taking (Step t) = 0
 taking (Advance n) = 0
 taking (Take t) = 4
+taking (Fail t) = 0
 taking Malformed = 0
 
 taking-given : (n : ℕ) (x : Number) (f : ℕ → Frame) → ((k : ℕ) → taking (f k) ≤ n) → taking (given x f) ≤ n
@@ -190,7 +195,7 @@ taking-take l = go (eqb (length l) 2) refl
     go false e = omega arith
 
 taking-form : (k : ℕ) (l : List ℕ) → taking (formOf k l) ≤ length l + 2
-unfolding formOf headerOf beginOf stepOf advanceOf
+unfolding formOf headerOf beginOf stepOf advanceOf failOf
 taking-form k l =
     let n : ℕ = length l + 2 in
     let none : 0 ≤ length l + 2 = omega arith in
@@ -205,7 +210,7 @@ taking-form k l =
     none)
     (both taking n _ _ _ (taking-given n (threadOf l) _ (λ t. none))
     (both taking n _ _ _ (both taking n _ _ _ (taking-given n (hexOf 0 l) _ (λ d. none)) none)
-    (both taking n _ _ _ (taking-take l) none))))
+    (both taking n _ _ _ (taking-take l) (both taking n _ _ _ (taking-given n (threadOf l) _ (λ t. none)) none)))))
 
 taking-line : (l : List ℕ) → taking (parseOf l) ≤ length l - 2 + 2
 unfolding parseOf
@@ -224,6 +229,8 @@ served-long h (Advance k) n e =
     both longServed (3 * (n + 1)) (h .made) _ _ (omega (arith, call-long (h .channel) (advances k))) (omega arith)
 served-long h (Take t) n e =
     both longServed (3 * (n + 1)) (h .made) _ _ (omega (arith, call-long (h .channel) (takes t))) (omega arith)
+served-long h (Fail t) n e =
+    both longServed (3 * (n + 1)) (h .made) _ _ (omega (arith, call-long (h .channel) (fails t))) (omega arith)
 served-long h Malformed n e = omega arith
 
 -- The output line of a line is at most three times as long as the line with its 0a.

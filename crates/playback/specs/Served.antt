@@ -9,7 +9,7 @@ use Rattle.channel.specs.Answer.{kindOf, valueOf}
 use Rattle.bounds.specs.Refusal.{numberOf}
 use Rattle.schedule.specs.Making.{zeroRecord, madeArray, madeZero}
 use Rattle.schedule.specs.Form.{InForm}
-use Rattle.schedule.specs.Calls.{begun, stepped, advanced, taken}
+use Rattle.schedule.specs.Calls.{begun, stepped, failed, advanced, taken}
 use Rattle.schedule.specs.declared.record.Replied.{Replied}
 use Rattle.bounds.specs.declared.refusal.Refusal.{Refusal}
 use Rattle.bounds.specs.declared.refusal.Refusal.the-variants as refusal
@@ -17,7 +17,7 @@ use Rattle.bounds.specs.declared.refusal.Reply.{Reply}
 use Rattle.bounds.specs.declared.refusal.Reply.the-variants.{Done, Took, Refused}
 use Rattle.text.specs.Output.{codeLine, tookLine}
 use Rattle.text.specs.declared.frame.Frame.{Frame}
-use Rattle.text.specs.declared.frame.Frame.the-variants.{Header, Begin, Step, Advance, Take, Malformed}
+use Rattle.text.specs.declared.frame.Frame.the-variants.{Header, Begin, Step, Advance, Take, Fail, Malformed}
 use Rattle.playback.specs.declared.held.Held.{Held}
 use Rattle.playback.specs.declared.held.Served.{Served}
 
@@ -55,6 +55,7 @@ servedFor h (Begin t c m d) = onceMade h (begun (h .channel) t c m d)
 servedFor h (Step t) = onceMade h (stepped (h .channel) t)
 servedFor h (Advance n) = onceMade h (advanced (h .channel) n)
 servedFor h (Take t) = onceMade h (taken (h .channel) t)
+servedFor h (Fail t) = onceMade h (failed (h .channel) t)
 servedFor h Malformed = refusedBy h refusal.Malformed
 
 -- Two digits, 00 or the refusal; an accepted take adds kind and value.

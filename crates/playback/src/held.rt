@@ -100,6 +100,7 @@ impl Held {
             Frame::Step { .. } => self.refused(Refusal::NoChannel),
             Frame::Advance { .. } => self.refused(Refusal::NoChannel),
             Frame::Take { .. } => self.refused(Refusal::NoChannel),
+            Frame::Fail { .. } => self.refused(Refusal::NoChannel),
         }
     }
 
@@ -121,6 +122,7 @@ impl Held {
             Frame::Step { thread } => kept(channel.step_in_form(thread)),
             Frame::Advance { ticks } => kept(channel.advance_in_form(ticks)),
             Frame::Take { thread } => kept(channel.take_in_form(thread)),
+            Frame::Fail { thread } => kept(channel.fail_in_form(thread)),
         }
     }
 

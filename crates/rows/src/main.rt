@@ -36,4 +36,8 @@ fn main() {
     tell(15, rows::two());
     tell(15, rows::lonely_array());
     tell(15, rows::built_lonely());
+    tell(16, rows::failed_send());
+    tell(16, rows::failed_receive());
+    tell(16, rows::no_exchange());
+    tell(16, rows::built_spent());
 }

@@ -149,3 +149,44 @@ pub fn built_lonely() -> Run {
     };
     built.stays(0, 1)
 }
+
+/// Row 16, of 02's #102: an exchange that fails goes back from C to A, one step counted; at B it is refusal 14.
+pub fn failed_send() -> Run {
+    let at_b = Run::made(Record::make_array(1, 1))
+        .begins(0, 1, 42, NONE)
+        .steps(0)
+        .does_not_fail(0, 14);
+    let back = at_b.goes(0, 0x1c).fails(0).stands(0, 0x1a).shows(6, 3);
+    back.walks(0, 5).takes(0, 1, 0).shows(8, 4)
+}
+
+/// The same of a receive.
+pub fn failed_receive() -> Run {
+    let at_c = Run::made(Record::make_array(1, 1))
+        .sends(0, 42)
+        .begins(0, 2, 0, NONE)
+        .walks(0, 2);
+    let back = at_c.stands(0, 0x2c).fails(0).stands(0, 0x2a).shows(7, 0);
+    back.walks(0, 5).takes(0, 2, 42)
+}
+
+/// A rendezvous has no weak exchange; no such thread, and no running call, come first.
+pub fn no_exchange() -> Run {
+    Run::made(Record::make_zero(2))
+        .does_not_fail(2, 4)
+        .does_not_fail(0, 6)
+        .begins(0, 3, 42, NONE)
+        .does_not_fail(0, 14)
+}
+
+/// The step limit comes first too, on a record built by hand.
+pub fn built_spent() -> Run {
+    let begun = Run::made(Record::make_array(1, 1)).begins(0, 1, 42, NONE);
+    let mut channel = begun.channel;
+    channel.steps = 1_000_000;
+    let built = Run {
+        channel,
+        agrees: begun.agrees,
+    };
+    built.does_not_fail(0, 8)
+}

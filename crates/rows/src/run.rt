@@ -74,6 +74,16 @@ impl Run {
         }
     }
 
+    /// A call that must be refused.
+    fn stayed(self, replied: Replied, refusal: u8) -> Run {
+        let reply = replied.reply;
+        let channel = replied.next;
+        Run {
+            channel,
+            agrees: self.agrees && is_refusal(reply, refusal),
+        }
+    }
+
     pub fn begins(self, thread: u32, code: u32, message: u32, deadline: u32) -> Run {
         let channel = self.channel;
         self.went_on(channel.begin(Thread(thread), code, message, Tick(deadline)))
@@ -100,6 +110,18 @@ impl Run {
         self.steps(thread).stands(thread, code)
     }
 
+    /// A step whose exchange fails, which must be accepted.
+    pub fn fails(self, thread: u32) -> Run {
+        let channel = self.channel;
+        self.went_on(channel.fail(Thread(thread)))
+    }
+
+    /// A step whose exchange fails, which must be refused.
+    pub fn does_not_fail(self, thread: u32, refusal: u8) -> Run {
+        let channel = self.channel;
+        self.stayed(channel.fail(Thread(thread)), refusal)
+    }
+
     pub fn advances(self, ticks: u32) -> Run {
         let channel = self.channel;
         self.went_on(channel.advance(Tick(ticks)))
@@ -120,13 +142,7 @@ impl Run {
     /// The clock must not go on.
     pub fn stays(self, ticks: u32, refusal: u8) -> Run {
         let channel = self.channel;
-        let replied = channel.advance(Tick(ticks));
-        let reply = replied.reply;
-        let next = replied.next;
-        Run {
-            channel: next,
-            agrees: self.agrees && is_refusal(reply, refusal),
-        }
+        self.stayed(channel.advance(Tick(ticks)), refusal)
     }
 
     /// A field of the record must have this value.

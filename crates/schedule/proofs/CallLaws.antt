@@ -10,14 +10,15 @@ use Rattle.bounds.specs.Limits.{later}
 use Rattle.bounds.specs.declared.limits.Clock.{Clock}
 use Rattle.bounds.specs.declared.refusal.Refusal.the-variants.{OutOfForm, NoSuchThread}
 use Rattle.places.specs.Begin.{started}
-use Rattle.places.specs.Turn.{begunFrom, goesOn, takenFrom}
+use Rattle.places.specs.Turn.{begunFrom, goesOn, failsFrom, takenFrom}
 use Rattle.places.specs.declared.begin.Start.{Start}
 use Rattle.places.specs.declared.place.Place.{Place}
+use Rattle.places.specs.declared.turn.Failing.{Failing}
 use Rattle.places.specs.declared.turn.Running.{Running}
 use Rattle.places.specs.declared.turn.Turn.{Turn}
 use Rattle.schedule.specs.Record.{placeOf, refusedWith, turnedBy}
 use Rattle.schedule.specs.Form.{inForm}
-use Rattle.schedule.specs.Calls.{formed, threaded, begunInForm, steppedBy, steppedInForm, advancedTo, advancedInForm, takenInForm}
+use Rattle.schedule.specs.Calls.{formed, threaded, begunInForm, steppedBy, steppedInForm, failedBy, failedInForm, advancedTo, advancedInForm, takenInForm}
 use Rattle.schedule.specs.declared.record.Record.{Record}
 use Rattle.schedule.specs.declared.record.Replied.{Replied}
 
@@ -60,6 +61,16 @@ module _ (r : Record) (t : Thread) where
       u ≡ goesOn p (r .steps) → u ≡ v → n ≡ steppedBy r t v → n ≡ steppedInForm r t
   unfolding steppedInForm
   stepped-there h e f g k = there _ h (rw (← e, ← f, g) k)
+
+  -- Fail.
+  pub failed-past : {n : Replied} → r .count ≤ t .0 → n ≡ refusedWith r NoSuchThread → n ≡ failedInForm r t
+  unfolding failedInForm
+  failed-past h e = past _ h e
+
+  pub failed-there : {n : Replied} {p : Place} {y : Running} {u v : Failing} → t .0 < r .count → p ≡ placeOf r (t .0) →
+      y ≡ goesOn p (r .steps) → u ≡ failsFrom y → u ≡ v → n ≡ failedBy r t v → n ≡ failedInForm r t
+  unfolding failedInForm
+  failed-there h e f g i k = there _ h (rw (← e, ← f, ← g, i) k)
 
   -- Take.
   pub taken-past : {n : Replied} → r .count ≤ t .0 → n ≡ refusedWith r NoSuchThread → n ≡ takenInForm r t

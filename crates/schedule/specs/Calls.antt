@@ -11,10 +11,12 @@ use Rattle.bounds.specs.declared.limits.Clock.{Clock}
 use Rattle.bounds.specs.declared.limits.Clock.the-variants as clock
 use Rattle.bounds.specs.declared.refusal.Refusal.the-variants.{OutOfForm, NoSuchThread}
 use Rattle.places.specs.Begin.{started}
-use Rattle.places.specs.Turn.{begunFrom, goesOn, takenFrom}
+use Rattle.places.specs.Turn.{begunFrom, goesOn, failsFrom, takenFrom}
+use Rattle.places.specs.declared.turn.Failing.{Failing}
+use Rattle.places.specs.declared.turn.Failing.the-variants as failing
 use Rattle.places.specs.declared.turn.Running.{Running}
 use Rattle.places.specs.declared.turn.Running.the-variants.{Refused, Array, Zero}
-use Rattle.schedule.specs.Record.{placeOf, withClock, afterArray, afterZero, refusedWith, acceptedAs, turnedBy}
+use Rattle.schedule.specs.Record.{placeOf, withClock, afterArray, afterZero, afterFailure, refusedWith, acceptedAs, turnedBy}
 use Rattle.schedule.specs.Form.{inForm}
 use Rattle.schedule.specs.declared.record.Record.{Record}
 use Rattle.schedule.specs.declared.record.Replied.{Replied}
@@ -46,6 +48,17 @@ steppedInForm r t = threaded r t (steppedBy r t (goesOn (placeOf r (t .0)) (r .s
 
 unfoldable pub stepped : Record → Thread → Replied
 stepped r t = formed r (steppedInForm r t)
+
+-- Fail: 6 and 8 as for a step, then 14; the step is counted.
+abbrev pub failedBy : Record → Thread → Failing → Replied
+failedBy r t (failing.Refused n) = refusedWith r n
+failedBy r t (failing.Back k) = acceptedAs (afterFailure r (t .0) k)
+
+unfoldable pub failedInForm : Record → Thread → Replied
+failedInForm r t = threaded r t (failedBy r t (failsFrom (goesOn (placeOf r (t .0)) (r .steps))))
+
+unfoldable pub failed : Record → Thread → Replied
+failed r t = formed r (failedInForm r t)
 
 -- Advance: 9.
 abbrev pub advancedTo : Record → Clock → Replied

@@ -8,7 +8,7 @@ use Rattle.waker.specs.declared.context.Thread.{Thread}
 use Rattle.channel.specs.declared.answer.Tick.{Tick}
 use Rattle.schedule.specs.Record.{acceptedAs}
 use Rattle.schedule.specs.Making.{madeArray, madeZero}
-use Rattle.schedule.specs.Calls.{begun, stepped, advanced, taken}
+use Rattle.schedule.specs.Calls.{begun, stepped, failed, advanced, taken}
 use Rattle.schedule.specs.declared.record.Record.{Record}
 use Rattle.schedule.specs.declared.record.Replied.{Replied}
 use Rattle.bounds.specs.declared.refusal.Reply.{Reply}
@@ -18,6 +18,7 @@ use Rattle.bounds.specs.declared.refusal.Reply.the-variants.{Done, Took, Refuse
 pub data Act : Type 0 where
   begins : Thread → ℕ → ℕ → Tick → Act
   steps : Thread → Act
+  fails : Thread → Act
   advances : Tick → Act
   takes : Thread → Act
 
@@ -25,6 +26,7 @@ pub data Act : Type 0 where
 abbrev pub actOn : Record → Act → Replied
 actOn r (begins t c m d) = begun r t c m d
 actOn r (steps t) = stepped r t
+actOn r (fails t) = failed r t
 actOn r (advances n) = advanced r n
 actOn r (takes t) = taken r t
 

@@ -3,6 +3,7 @@ use Prim.Native.Nat.{ℕ, _+_}
 use lib.ListN.{getD, set}
 use Rattle.channel.specs.declared.answer.Tick.{Tick}
 use Rattle.array.specs.declared.ArrayStepped.{ArrayStepped}
+use Rattle.array.specs.declared.call.ArrayCall.{ArrayCall}
 use Rattle.array.specs.declared.outcome.ArrayNext.{ArrayNext}
 use Rattle.array.specs.declared.outcome.ArrayNext.the-variants as array
 use Rattle.zero.specs.declared.ZeroStepped.{ZeroStepped}
@@ -92,6 +93,10 @@ afterZero r t s =
       count = r .count;
       flavour = r .flavour;
     }
+
+-- An exchange that fails is a step that writes nothing.
+abbrev pub afterFailure : Record → ℕ → ArrayCall → Record
+afterFailure r t k = afterArray r t (record { array = r .array; next = array.Goes k })
 
 abbrev pub replied : Record → Reply → Replied
 replied r y = record { next = r; reply = y }

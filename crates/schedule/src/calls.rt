@@ -1,7 +1,7 @@
-//! The public calls: begin, step, advance and take. Each tests the form, then does the same as its inner path.
+//! The public calls: begin, step, fail, advance and take. Each tests the form, then does the same as its inner path.
 ghost use mathlib.Core.Path.{_≡_};
 ghost use Rattle.schedule.specs.Form.{InForm};
-ghost use Rattle.schedule.specs.Calls.{begun, begunInForm, stepped, steppedInForm, advanced, advancedInForm, taken, takenInForm};
+ghost use Rattle.schedule.specs.Calls.{begun, begunInForm, stepped, steppedInForm, failed, failedInForm, advanced, advancedInForm, taken, takenInForm};
 use crate::record::Record;
 use crate::record::Replied;
 use bounds::limits;
@@ -11,6 +11,7 @@ use bounds::refusal::Reply;
 use channel::answer::Tick;
 use places::begin;
 use places::turn;
+use places::turn::Failing;
 use places::turn::Running;
 use waker::context::Thread;
 
@@ -76,6 +77,36 @@ impl Record {
     {
         if self.in_form() {
             return self.step_in_form(thread);
+        }
+        self.refused(Refusal::OutOfForm)
+    }
+
+    /// Fail on a record in form.
+    pub fn fail_in_form(self, thread: Thread) -> Replied
+        requires { ⌜ InForm self ⌝ }
+        ensures { λ r. ⌜ r ≡ failedInForm self thread ⌝ }
+    {
+        if self.count <= thread.0 {
+            return self.refused(Refusal::NoSuchThread);
+        }
+        let at = thread.0 as usize;
+        let running = turn::step(self.place(at), self.steps);
+        let failing = turn::fail(running);
+        match failing {
+            Failing::Refused(refusal) => self.refused(refusal),
+            Failing::Back(call) => Replied {
+                next: self.after_failure(at, call),
+                reply: Reply::Done,
+            },
+        }
+    }
+
+    /// Makes one step of a thread's running call, in which its weak exchange fails.
+    pub fn fail(self, thread: Thread) -> Replied
+        ensures { λ r. ⌜ r ≡ failed self thread ⌝ }
+    {
+        if self.in_form() {
+            return self.fail_in_form(thread);
         }
         self.refused(Refusal::OutOfForm)
     }

@@ -3,9 +3,10 @@ ghost use mathlib.Core.Path.{_≡_};
 ghost use Prim.Native.Nat.{_<_};
 ghost use Rattle.waker.specs.Context.{threads};
 ghost use Rattle.bounds.specs.Limits.{stepLimit};
-ghost use Rattle.schedule.specs.Record.{placeOf, withThread, refusedWith, turnedBy, afterArray, afterZero, placeAfterArray, placeAfterZero};
+ghost use Rattle.schedule.specs.Record.{placeOf, withThread, refusedWith, turnedBy, afterArray, afterZero, afterFailure, placeAfterArray, placeAfterZero};
 use array::Array;
 use array::ArrayStepped;
+use array::call::ArrayCall;
 use array::outcome::ArrayNext;
 use bounds::flavour::Flavour;
 use bounds::refusal::Refusal;
@@ -130,6 +131,18 @@ impl Record {
         self.zero = zero;
         self.threads[thread] = ThreadRecord { place };
         self.steps = self.steps + 1;
+        self
+    }
+
+    /// A weak exchange has failed: its call goes back, and the step is counted.
+    pub fn after_failure(mut self, thread: usize, call: ArrayCall) -> Record
+        requires { ⌜ (thread < threads) × (self .steps < stepLimit) ⌝ }
+        ensures { λ r. ⌜ r ≡ afterFailure self thread call ⌝ }
+    {
+        let place = Place::Array(call);
+        let steps = self.steps + 1;
+        self.threads[thread] = ThreadRecord { place };
+        self.steps = steps;
         self
     }
 }

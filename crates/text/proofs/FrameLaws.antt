@@ -25,10 +25,10 @@ unfolding parseOf if_then_else_
 parsed-other l e = rw (ne-eqb (getD l 0 0) 0x30 e)
 
 pub form-none : (k : ℕ) (s : List ℕ) → (k ≡ 0x30 → ⊥) → (k ≡ 0x31 → ⊥) → (k ≡ 0x32 → ⊥) → (k ≡ 0x33 → ⊥) →
-    (k ≡ 0x34 → ⊥) → Malformed ≡ formOf k s
+    (k ≡ 0x34 → ⊥) → (k ≡ 0x35 → ⊥) → Malformed ≡ formOf k s
 unfolding formOf if_then_else_
-form-none k s a b c d e =
-    simp (ne-eqb k 0x30 a, ne-eqb k 0x31 b, ne-eqb k 0x32 c, ne-eqb k 0x33 d, ne-eqb k 0x34 e)
+form-none k s a b c d e f =
+    simp (ne-eqb k 0x30 a, ne-eqb k 0x31 b, ne-eqb k 0x32 c, ne-eqb k 0x33 d, ne-eqb k 0x34 e, ne-eqb k 0x35 f)
 
 pub parsed-short : (l : List ℕ) → length l < 2 → Malformed ≡ parseOf l
 unfolding parseOf formOf if_then_else_

@@ -12,22 +12,23 @@ use Rattle.channel.specs.Answer.{ticks}
 use Rattle.waker.specs.Choice.{if_then_else_}
 use Rattle.waker.specs.Context.{thread}
 use Rattle.text.specs.Hex.{hexOf, byteText}
-use Rattle.text.specs.Frames.{given, headerOf, beginOf, threadOf, stepOf, advanceOf, takeOf, formOf, parseOf}
+use Rattle.text.specs.Frames.{given, headerOf, beginOf, threadOf, stepOf, advanceOf, takeOf, failOf, formOf, parseOf}
 use Rattle.text.specs.Texts.{textOf, Spelled, ReadWritten, WrittenRead}
 use Rattle.text.specs.declared.hex.Number.{Number}
 use Rattle.text.specs.declared.hex.Number.the-variants.{Is, None}
 use Rattle.text.specs.declared.frame.Frame.{Frame}
-use Rattle.text.specs.declared.frame.Frame.the-variants.{Header, Begin, Step, Advance, Take, Malformed}
+use Rattle.text.specs.declared.frame.Frame.the-variants.{Header, Begin, Step, Advance, Take, Fail, Malformed}
 use Rattle.text.proofs.HexLaws.{hex-byte, hex-word, byte-only, word-only}
 
 pub read-written : ReadWritten
-unfolding parseOf formOf headerOf beginOf threadOf stepOf advanceOf takeOf if_then_else_
+unfolding parseOf formOf headerOf beginOf threadOf stepOf advanceOf takeOf failOf if_then_else_
 read-written (Header c n) h = rw (hex-byte c (h .0), hex-byte n (h .1))
 read-written (Begin t o m d) h =
     rw (hex-byte (t .0) (h .0), hex-byte o (h .1), hex-word m (h .2), hex-word (d .0) (h .3))
 read-written (Step t) h = rw (hex-byte (t .0) h)
 read-written (Advance n) h = rw (hex-word (n .0) h)
 read-written (Take t) h = rw (hex-byte (t .0) h)
+read-written (Fail t) h = rw (hex-byte (t .0) h)
 read-written Malformed h = refl
 
 -- A line that is read as the frame f is the line of f, or f is Malformed.
@@ -74,7 +75,7 @@ begin-text s t o m d h et eo em ed =
     let e = begin-fields s ∙ (λ i. p .1 i ++ q .1 i ++ r .1 i ++ v .1 i) in
     ((p .0, q .0, r .0, v .0), ap (λ (u : List ℕ). 0x30 ∷ 0x31 ∷ u) e)
 
--- The five forms.
+-- The six forms.
 header-only : (s : List ℕ) → Only (0x30 ∷ 0x30 ∷ s) (headerOf s)
 unfolding headerOf Only
 header-only s =
@@ -124,6 +125,12 @@ take-only s =
     only-given _ _ (threadOf s) (λ t e ne.
     let p = thread-text s t e in (p .0, ap (λ (u : List ℕ). 0x30 ∷ 0x34 ∷ u) (p .1)))
 
+fail-only : (s : List ℕ) → Only (0x30 ∷ 0x35 ∷ s) (failOf s)
+unfolding failOf Only
+fail-only s =
+    only-given _ _ (threadOf s) (λ t e ne.
+    let p = thread-text s t e in (p .0, ap (λ (u : List ℕ). 0x30 ∷ 0x35 ∷ u) (p .1)))
+
 -- By the second digit, and by the first.
 form-only : (k : ℕ) (s : List ℕ) → Only (0x30 ∷ k ∷ s) (formOf k s)
 unfolding formOf
@@ -132,7 +139,8 @@ form-only k s =
     (only-if _ _ _ (eqb k 0x31) (λ x. rw (eqb-true k 0x31 x) (begin-only s))
     (only-if _ _ _ (eqb k 0x32) (λ x. rw (eqb-true k 0x32 x) (step-only s))
     (only-if _ _ _ (eqb k 0x33) (λ x. rw (eqb-true k 0x33 x) (advance-only s))
-    (only-if _ _ _ (eqb k 0x34) (λ x. rw (eqb-true k 0x34 x) (take-only s)) (only-none _)))))
+    (only-if _ _ _ (eqb k 0x34) (λ x. rw (eqb-true k 0x34 x) (take-only s))
+    (only-if _ _ _ (eqb k 0x35) (λ x. rw (eqb-true k 0x35 x) (fail-only s)) (only-none _))))))
 
 parse-only : (l : List ℕ) → Only l (parseOf l)
 unfolding parseOf formOf if_then_else_

@@ -1,4 +1,4 @@
--- The frame that a line spells: 01's five forms, by their first two digits. 0x30 to 0x34 are the characters 0 to 4.
+-- The frame that a line spells: 01's five forms and #102's `05tt`, by their first two digits. 0x30 to 0x35 are the characters 0 to 5.
 use Prim.Native.Nat.{ℕ}
 use mathlib.Core.List.{List}
 use lib.Dec.{eqb}
@@ -10,14 +10,14 @@ use Rattle.text.specs.Hex.{hexOf}
 use Rattle.text.specs.declared.hex.Number.{Number}
 use Rattle.text.specs.declared.hex.Number.the-variants.{Is, None}
 use Rattle.text.specs.declared.frame.Frame.{Frame}
-use Rattle.text.specs.declared.frame.Frame.the-variants.{Header, Begin, Step, Advance, Take, Malformed}
+use Rattle.text.specs.declared.frame.Frame.the-variants.{Header, Begin, Step, Advance, Take, Fail, Malformed}
 
 -- The frame that follows from a number; without one the line is malformed.
 abbrev pub given : Number → (ℕ → Frame) → Frame
 given (Is n) f = f n
 given None f = Malformed
 
--- `00cctt`, by what follows its first two digits; so are the four below.
+-- `00cctt`, by what follows its first two digits; so are the five below.
 unfoldable pub headerOf : List ℕ → Frame
 headerOf s =
     if eqb (length s) 4 then given (hexOf 0 (take 2 s)) (λ c. given (hexOf 0 (drop 2 s)) (λ n. Header c n))
@@ -49,6 +49,10 @@ advanceOf s = if eqb (length s) 8 then given (hexOf 0 s) (λ n. Advance (ticks n
 unfoldable pub takeOf : List ℕ → Frame
 takeOf s = given (threadOf s) (λ t. Take (thread t))
 
+-- `05tt`
+unfoldable pub failOf : List ℕ → Frame
+failOf s = given (threadOf s) (λ t. Fail (thread t))
+
 -- The second digit names the form.
 unfoldable pub formOf : ℕ → List ℕ → Frame
 formOf k s =
@@ -57,6 +61,7 @@ formOf k s =
     else if eqb k 0x32 then stepOf s
     else if eqb k 0x33 then advanceOf s
     else if eqb k 0x34 then takeOf s
+    else if eqb k 0x35 then failOf s
     else Malformed
 
 -- The first digit of every form is 0. Past its end a short line reads as byte 0, which is no digit and names no form.

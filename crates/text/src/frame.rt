@@ -1,6 +1,6 @@
 //! The frames that lines spell.
 ghost use mathlib.Core.Path.{_≡_};
-ghost use Rattle.text.specs.Frames.{headerOf, beginOf, threadOf, stepOf, advanceOf, takeOf, parseOf};
+ghost use Rattle.text.specs.Frames.{headerOf, beginOf, threadOf, stepOf, advanceOf, takeOf, failOf, parseOf};
 ghost use Rattle.text.specs.Texts.{ReadWritten, WrittenRead};
 use crate::hex::Number;
 use crate::hex::hex;
@@ -26,6 +26,9 @@ pub enum Frame {
         ticks: Tick,
     },
     Take {
+        thread: Thread,
+    },
+    Fail {
         thread: Thread,
     },
     Malformed,
@@ -121,6 +124,18 @@ fn take(digits: &[u8]) -> Frame
     }
 }
 
+/// `tt` after `05`: the thread whose weak exchange fails.
+fn fail(digits: &[u8]) -> Frame
+    ensures { λ r. ⌜ r ≡ failOf (now (digits .entry)) ⌝ }
+{
+    match thread_number(digits) {
+        Number::Is(thread) => Frame::Fail {
+            thread: Thread(thread),
+        },
+        Number::None => Frame::Malformed,
+    }
+}
+
 /// The frame that a line spells. Most lines are steps, so these are tested first.
 pub fn parse(line: &[u8]) -> Frame
     ensures { λ r. ⌜ r ≡ parseOf (now (line .entry)) ⌝ }
@@ -144,6 +159,9 @@ pub fn parse(line: &[u8]) -> Frame
     }
     if kind == b'3' {
         return advance(digits);
+    }
+    if kind == b'5' {
+        return fail(digits);
     }
     if kind == b'0' {
         return header(digits);

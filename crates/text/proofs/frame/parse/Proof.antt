@@ -60,21 +60,32 @@ returns-6 c =
     let b = c .before .before .before in
     parsed _ _ 0x33 (b .before .before .before .before .if2 .left) (c .before .if6 .taken) (c .advance .ensures)
 
-header-requires : tie.Need-header-requires
-header-requires c κs = search needs
+fail-requires : tie.Need-fail-requires
+fail-requires c κs = search needs
 
 returns-7 : tie.Need-returns-7
 unfolding formOf if_then_else_
 returns-7 c =
     let b = c .before .before .before .before in
-    parsed _ _ 0x30 (b .before .before .before .before .if2 .left) (c .before .if7 .taken) (c .header .ensures)
+    parsed _ _ 0x35 (b .before .before .before .before .if2 .left) (c .before .if7 .taken) (c .fail .ensures)
+
+header-requires : tie.Need-header-requires
+header-requires c κs = search needs
 
 returns-8 : tie.Need-returns-8
+unfolding formOf if_then_else_
 returns-8 c =
-    let advance = c .before in
+    let b = c .before .before .before .before .before in
+    parsed _ _ 0x30 (b .before .before .before .before .if2 .left) (c .before .if8 .taken) (c .header .ensures)
+
+returns-9 : tie.Need-returns-9
+returns-9 c =
+    let fail = c .before in
+    let advance = fail .before in
     let begin = advance .before .before in
     parsed _ _ _ (begin .before .before .before .before .if2 .left) refl
-    (form-none _ _ (c .if7 .left) (begin .if4 .left) (begin .before .if3 .left) (advance .if6 .left) (advance .before .if5 .left))
+    (form-none _ _ (c .if8 .left) (begin .if4 .left) (begin .before .if3 .left) (advance .if6 .left) (advance .before .if5 .left)
+    (fail .if7 .left))
 
 pub parse-spec : {M : Type 1} → statement M
 parse-spec =
@@ -95,6 +106,8 @@ parse-spec =
     returns-5
     advance-requires
     returns-6
-    header-requires
+    fail-requires
     returns-7
-    returns-8)
+    header-requires
+    returns-8
+    returns-9)

@@ -1,5 +1,5 @@
 -- `Held::serve_made` meets its contract: a law a path. What was made is in form, so the inner path answers as the public call does.
-use Rattle.schedule.specs.Calls.{begun, stepped, advanced, taken}
+use Rattle.schedule.specs.Calls.{begun, stepped, failed, advanced, taken}
 use Rattle.playback.specs.Served.{servedFor}
 use Rattle.playback.proofs.ServedLaws.{on-true, served-as, once-made}
 use Rattle.playback.proofs.held.Held.serve_made.Statement.{statement}
@@ -53,6 +53,15 @@ take-in-form-requires c κs = let s = c .before .before .before .before in s .pr
 kept-requires-4 : tie.Need-kept-requires-4
 kept-requires-4 c κs = tt
 
+enum-known-frame-5 : tie.Need-enum-known-frame-5
+enum-known-frame-5 c = c .match .keys7
+
+fail-in-form-requires : tie.Need-fail-in-form-requires
+fail-in-form-requires c κs = let s = c .before .before .before .before in s .pre .1 (s .pre .0)
+
+kept-requires-5 : tie.Need-kept-requires-5
+kept-requires-5 c κs = tt
+
 returns : tie.Need-returns
 unfolding servedFor
 returns c = served-as (c .before .before .before .before .args .self) (c .before .enum-told .given .1) (c .refused .ensures)
@@ -91,6 +100,13 @@ returns-6 c =
     served-as (s .args .self) (c .before .before .before .frame4 .given .1)
     (once-made (s .args .self) (s .pre .1) (s .pre .0) (c .before .take-in-form .ensures) (c .kept4 .ensures))
 
+returns-7 : tie.Need-returns-7
+unfolding servedFor failed
+returns-7 c =
+    let s = c .before .before .before .before .before .before in
+    served-as (s .args .self) (c .before .before .before .frame5 .given .1)
+    (once-made (s .args .self) (s .pre .1) (s .pre .0) (c .before .fail-in-form .ensures) (c .kept5 .ensures))
+
 pub serve-made-spec : {M : Type 1} → statement M
 serve-made-spec =
     tie.close
@@ -111,9 +127,13 @@ serve-made-spec =
     enum-known-frame-4
     take-in-form-requires
     kept-requires-4
+    enum-known-frame-5
+    fail-in-form-requires
+    kept-requires-5
     returns
     returns-2
     returns-3
     returns-4
     returns-5
-    returns-6)
+    returns-6
+    returns-7)

@@ -44,6 +44,12 @@ enum-told-5 c = c .match .keys6
 refused-requires-5 : tie.Need-refused-requires-5
 refused-requires-5 c κs = tt
 
+enum-told-6 : tie.Need-enum-told-6
+enum-told-6 c = c .match .keys7
+
+refused-requires-6 : tie.Need-refused-requires-6
+refused-requires-6 c κs = tt
+
 returns : tie.Need-returns
 unfolding servedFor
 returns c = served-as (c .before .before .before .args .self) (c .before .enum-told .given .1) (c .refused .ensures)
@@ -79,6 +85,12 @@ returns-6 c =
     let s = c .before .before .before in
     served-as (s .args .self) (c .before .enum-told5 .given .1) (on-false _ _ (s .pre) (c .refused5 .ensures))
 
+returns-7 : tie.Need-returns-7
+unfolding servedFor
+returns-7 c =
+    let s = c .before .before .before in
+    served-as (s .args .self) (c .before .enum-told6 .given .1) (on-false _ _ (s .pre) (c .refused6 .ensures))
+
 pub serve-unmade-spec : {M : Type 1} → statement M
 serve-unmade-spec =
     tie.close
@@ -96,9 +108,12 @@ serve-unmade-spec =
     refused-requires-4
     enum-told-5
     refused-requires-5
+    enum-told-6
+    refused-requires-6
     returns
     returns-2
     returns-3
     returns-4
     returns-5
-    returns-6)
+    returns-6
+    returns-7)

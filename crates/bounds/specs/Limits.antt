@@ -49,6 +49,10 @@ making f c n =
 abbrev pub stepping : ℕ → Verdict
 stepping s = if leb stepLimit s then Refused StepLimit else Allowed
 
+-- Every step is counted, an idle poll and a failed exchange too.
+abbrev pub oneMore : ℕ → ℕ
+oneMore s = s + 1
+
 -- 9: clock plus ticks exceeds fffffffe.
 abbrev pub later : Tick → Tick → Clock
 later c n =

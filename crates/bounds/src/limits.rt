@@ -1,6 +1,7 @@
 //! The bounds, and the refusals that stand on them alone: 2, 3, 8 and 9.
 ghost use mathlib.Core.Path.{_≡_};
-ghost use Rattle.bounds.specs.Limits.{capacityFits, fewest, countFits, boundsHold, making, stepping, later};
+ghost use Prim.Native.Nat.{_<_};
+ghost use Rattle.bounds.specs.Limits.{stepLimit, capacityFits, fewest, countFits, boundsHold, making, stepping, oneMore, later};
 use crate::flavour::Flavour;
 use crate::refusal::Refusal;
 use channel::answer::Tick;
@@ -83,6 +84,14 @@ pub fn stepping(steps: u32) -> Verdict
         return Verdict::Refused(Refusal::StepLimit);
     }
     Verdict::Allowed
+}
+
+/// The steps after one more: every step is counted, an idle poll and a failed exchange too.
+pub fn one_more(steps: u32) -> u32
+    requires { ⌜ steps < stepLimit ⌝ }
+    ensures { λ r. ⌜ r ≡ oneMore steps ⌝ }
+{
+    steps + 1
 }
 
 /// The clock after so many ticks more.

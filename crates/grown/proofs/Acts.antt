@@ -23,13 +23,13 @@ use Rattle.bounds.specs.declared.refusal.Refusal.{Refusal}
 use Rattle.bounds.specs.declared.refusal.Refusal.the-variants.{OutOfForm, NoSuchThread, NotIdle, NotRunning, UnknownCall, StepLimit, ClockLimit, NoAnswer, NoExchange}
 use Rattle.bounds.specs.declared.refusal.Reply.the-variants.{Took}
 use Rattle.places.specs.Begin.{started}
-use Rattle.places.specs.Turn.{startedFrom, begunFrom, goesOn, failsBack, failsFrom, takenFrom}
+use Rattle.turns.specs.Turn.{startedFrom, begunFrom, goesOn, failsBack, failsFrom, takenFrom}
 use Rattle.places.specs.declared.begin.Start.{Start}
 use Rattle.places.specs.declared.begin.Start.the-variants.{None, At}
 use Rattle.places.specs.declared.place.Place.{Place}
 use Rattle.places.specs.declared.place.Place.the-variants.{Idle, Array, Zero, Done}
-use Rattle.places.specs.declared.turn.Running.the-variants as running
-use Rattle.places.proofs.TurnLaws.{either-side}
+use Rattle.turns.specs.declared.Running.the-variants as running
+use Rattle.turns.proofs.TurnLaws.{either-side}
 use Rattle.schedule.specs.Record.{placeOf, withThread, withClock, afterArray, afterZero, afterFailure, replied, refusedWith, acceptedAs, turnedBy}
 use Rattle.schedule.specs.Form.{inForm}
 use Rattle.schedule.specs.Calls.{formed, threaded, begun, begunInForm, stepped, steppedInForm, steppedBy, failed, failedInForm, failedBy, advanced, advancedInForm, advancedTo, taken, takenInForm}

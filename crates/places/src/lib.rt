@@ -1,4 +1,3 @@
-//! Where a thread stands, and how its call begins, goes on and is taken.
+//! Where a thread stands, and how its call begins.
 pub mod begin;
 pub mod place;
-pub mod turn;

@@ -10,12 +10,12 @@ use Rattle.bounds.specs.Limits.{later}
 use Rattle.bounds.specs.declared.limits.Clock.{Clock}
 use Rattle.bounds.specs.declared.refusal.Refusal.the-variants.{OutOfForm, NoSuchThread}
 use Rattle.places.specs.Begin.{started}
-use Rattle.places.specs.Turn.{begunFrom, goesOn, failsFrom, takenFrom}
+use Rattle.turns.specs.Turn.{begunFrom, goesOn, failsFrom, takenFrom}
 use Rattle.places.specs.declared.begin.Start.{Start}
 use Rattle.places.specs.declared.place.Place.{Place}
-use Rattle.places.specs.declared.turn.Failing.{Failing}
-use Rattle.places.specs.declared.turn.Running.{Running}
-use Rattle.places.specs.declared.turn.Turn.{Turn}
+use Rattle.turns.specs.declared.Failing.{Failing}
+use Rattle.turns.specs.declared.Running.{Running}
+use Rattle.turns.specs.declared.Turn.{Turn}
 use Rattle.schedule.specs.Record.{placeOf, refusedWith, turnedBy}
 use Rattle.schedule.specs.Form.{inForm}
 use Rattle.schedule.specs.Calls.{formed, threaded, begunInForm, steppedBy, steppedInForm, failedBy, failedInForm, advancedTo, advancedInForm, takenInForm}

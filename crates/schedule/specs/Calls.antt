@@ -11,11 +11,11 @@ use Rattle.bounds.specs.declared.limits.Clock.{Clock}
 use Rattle.bounds.specs.declared.limits.Clock.the-variants as clock
 use Rattle.bounds.specs.declared.refusal.Refusal.the-variants.{OutOfForm, NoSuchThread}
 use Rattle.places.specs.Begin.{started}
-use Rattle.places.specs.Turn.{begunFrom, goesOn, failsFrom, takenFrom}
-use Rattle.places.specs.declared.turn.Failing.{Failing}
-use Rattle.places.specs.declared.turn.Failing.the-variants as failing
-use Rattle.places.specs.declared.turn.Running.{Running}
-use Rattle.places.specs.declared.turn.Running.the-variants.{Refused, Array, Zero}
+use Rattle.turns.specs.Turn.{begunFrom, goesOn, failsFrom, takenFrom}
+use Rattle.turns.specs.declared.Failing.{Failing}
+use Rattle.turns.specs.declared.Failing.the-variants as failing
+use Rattle.turns.specs.declared.Running.{Running}
+use Rattle.turns.specs.declared.Running.the-variants.{Refused, Array, Zero}
 use Rattle.schedule.specs.Record.{placeOf, withClock, afterArray, afterZero, afterFailure, refusedWith, acceptedAs, turnedBy}
 use Rattle.schedule.specs.Form.{inForm}
 use Rattle.schedule.specs.declared.record.Record.{Record}

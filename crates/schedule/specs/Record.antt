@@ -1,5 +1,5 @@
 -- The record and its parts: a change is one of these with another part.
-use Prim.Native.Nat.{ℕ, _+_}
+use Prim.Native.Nat.{ℕ}
 use lib.ListN.{getD, set}
 use Rattle.channel.specs.declared.answer.Tick.{Tick}
 use Rattle.array.specs.declared.ArrayStepped.{ArrayStepped}
@@ -9,10 +9,11 @@ use Rattle.array.specs.declared.outcome.ArrayNext.the-variants as array
 use Rattle.zero.specs.declared.ZeroStepped.{ZeroStepped}
 use Rattle.zero.specs.declared.outcome.ZeroNext.{ZeroNext}
 use Rattle.zero.specs.declared.outcome.ZeroNext.the-variants as zero
+use Rattle.bounds.specs.Limits.{oneMore}
 use Rattle.places.specs.declared.place.Place.{Place}
 use Rattle.places.specs.declared.place.Place.the-variants.{Idle, Array, Zero, Done}
-use Rattle.places.specs.declared.turn.Turn.{Turn}
-use Rattle.places.specs.declared.turn.Turn.the-variants.{Refused, Stands}
+use Rattle.turns.specs.declared.Turn.{Turn}
+use Rattle.turns.specs.declared.Turn.the-variants.{Refused, Stands}
 use Rattle.schedule.specs.declared.record.ThreadRecord.{ThreadRecord}
 use Rattle.schedule.specs.declared.record.Record.{Record}
 use Rattle.schedule.specs.declared.record.Replied.{Replied}
@@ -63,11 +64,7 @@ abbrev pub placeAfterZero : ZeroNext → Place
 placeAfterZero (zero.Goes k) = Zero k
 placeAfterZero (zero.Ends a) = Done a
 
--- Every step is counted, an idle poll too.
-abbrev pub stepsAfter : Record → ℕ
-stepsAfter r = r .steps + 1
-
--- A step changes its channel and one thread's record.
+-- A step changes its channel and one thread's record, and is counted.
 abbrev pub afterArray : Record → ℕ → ArrayStepped → Record
 afterArray r t s =
     record {
@@ -76,7 +73,7 @@ afterArray r t s =
       threads = set (r .threads) t (threadAt (placeAfterArray (s .next)));
       shape = r .shape;
       clock = r .clock;
-      steps = stepsAfter r;
+      steps = oneMore (r .steps);
       count = r .count;
       flavour = r .flavour;
     }
@@ -89,7 +86,7 @@ afterZero r t s =
       threads = set (r .threads) t (threadAt (placeAfterZero (s .next)));
       shape = r .shape;
       clock = r .clock;
-      steps = stepsAfter r;
+      steps = oneMore (r .steps);
       count = r .count;
       flavour = r .flavour;
     }

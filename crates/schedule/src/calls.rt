@@ -10,9 +10,8 @@ use bounds::refusal::Refusal;
 use bounds::refusal::Reply;
 use channel::answer::Tick;
 use places::begin;
-use places::turn;
-use places::turn::Failing;
-use places::turn::Running;
+use turns::Failing;
+use turns::Running;
 use waker::context::Thread;
 
 impl Record {
@@ -27,7 +26,7 @@ impl Record {
         let at = thread.0 as usize;
         let flavour = self.flavour;
         let start = begin::start_on(flavour, code, message, deadline);
-        self.turned(at, turn::begin(self.place(at), start))
+        self.turned(at, turns::begin(self.place(at), start))
     }
 
     /// Begins a call on a thread.
@@ -49,7 +48,7 @@ impl Record {
             return self.refused(Refusal::NoSuchThread);
         }
         let at = thread.0 as usize;
-        let running = turn::step(self.place(at), self.steps);
+        let running = turns::step(self.place(at), self.steps);
         match running {
             Running::Refused(refusal) => self.refused(refusal),
             Running::Array(call) => {
@@ -90,8 +89,8 @@ impl Record {
             return self.refused(Refusal::NoSuchThread);
         }
         let at = thread.0 as usize;
-        let running = turn::step(self.place(at), self.steps);
-        let failing = turn::fail(running);
+        let running = turns::step(self.place(at), self.steps);
+        let failing = turns::fail(running);
         match failing {
             Failing::Refused(refusal) => self.refused(refusal),
             Failing::Back(call) => Replied {
@@ -148,7 +147,7 @@ impl Record {
             return self.refused(Refusal::NoSuchThread);
         }
         let at = thread.0 as usize;
-        self.turned(at, turn::take(self.place(at)))
+        self.turned(at, turns::take(self.place(at)))
     }
 
     /// Takes a thread's answer, which frees the thread.

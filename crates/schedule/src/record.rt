@@ -9,12 +9,13 @@ use array::ArrayStepped;
 use array::call::ArrayCall;
 use array::outcome::ArrayNext;
 use bounds::flavour::Flavour;
+use bounds::limits;
 use bounds::refusal::Refusal;
 use bounds::refusal::Reply;
 use channel::answer::Tick;
 use channel::position::Shape;
 use places::place::Place;
-use places::turn::Turn;
+use turns::Turn;
 use waker::context::THREADS;
 use zero::Zero;
 use zero::ZeroStepped;
@@ -116,7 +117,7 @@ impl Record {
         let place = place_after_array(next);
         self.array = array;
         self.threads[thread] = ThreadRecord { place };
-        self.steps = self.steps + 1;
+        self.steps = limits::one_more(self.steps);
         self
     }
 
@@ -130,7 +131,7 @@ impl Record {
         let place = place_after_zero(next);
         self.zero = zero;
         self.threads[thread] = ThreadRecord { place };
-        self.steps = self.steps + 1;
+        self.steps = limits::one_more(self.steps);
         self
     }
 
@@ -140,9 +141,8 @@ impl Record {
         ensures { λ r. ⌜ r ≡ afterFailure self thread call ⌝ }
     {
         let place = Place::Array(call);
-        let steps = self.steps + 1;
         self.threads[thread] = ThreadRecord { place };
-        self.steps = steps;
+        self.steps = limits::one_more(self.steps);
         self
     }
 }

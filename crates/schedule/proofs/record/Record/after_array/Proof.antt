@@ -12,12 +12,12 @@ mul-t9 c = search needs
 element-set-from-self : tie.Need-element-set-from-self
 element-set-from-self c = search needs
 
-add-self : tie.Need-add-self
-add-self c = search needs
+one-more-requires : tie.Need-one-more-requires
+one-more-requires c κs = search needs
 
 returns : tie.Need-returns
-returns c = rw (c .place-after-array .ensures)
+returns c = rw (c .before .place-after-array .ensures, c .one-more .ensures)
 
 pub after-array-spec : {M : Type 1} → statement M
 after-array-spec =
-    tie.close (tie.spec place-after-array-requires mul-t9 element-set-from-self add-self returns)
+    tie.close (tie.spec place-after-array-requires mul-t9 element-set-from-self one-more-requires returns)

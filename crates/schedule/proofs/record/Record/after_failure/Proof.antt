@@ -1,20 +1,19 @@
 -- `Record::after_failure` meets its contract: a step that writes nothing to the array.
-use mathlib.Core.Path.{refl}
 use borrow.Author.Needs.{needs}
 use Rattle.schedule.proofs.record.Record.after_failure.Statement.{statement}
 use Rattle.schedule.proofs.record.Record.after_failure.Tie as tie
 
-add-steps : tie.Need-add-steps
-add-steps c = search needs
-
-mul-t9 : tie.Need-mul-t9
-mul-t9 c = search needs
+mul-t7 : tie.Need-mul-t7
+mul-t7 c = search needs
 
 element-set-from-self : tie.Need-element-set-from-self
 element-set-from-self c = search needs
 
+one-more-requires : tie.Need-one-more-requires
+one-more-requires c κs = search needs
+
 returns : tie.Need-returns
-returns c = refl
+returns c = rw (c .one-more .ensures)
 
 pub after-failure-spec : {M : Type 1} → statement M
-after-failure-spec = tie.close (tie.spec add-steps mul-t9 element-set-from-self returns)
+after-failure-spec = tie.close (tie.spec mul-t7 element-set-from-self one-more-requires returns)

@@ -12,12 +12,12 @@ mul-t9 c = search needs
 element-set-from-self : tie.Need-element-set-from-self
 element-set-from-self c = search needs
 
-add-self : tie.Need-add-self
-add-self c = search needs
+one-more-requires : tie.Need-one-more-requires
+one-more-requires c κs = search needs
 
 returns : tie.Need-returns
-returns c = rw (c .place-after-zero .ensures)
+returns c = rw (c .before .place-after-zero .ensures, c .one-more .ensures)
 
 pub after-zero-spec : {M : Type 1} → statement M
 after-zero-spec =
-    tie.close (tie.spec place-after-zero-requires mul-t9 element-set-from-self add-self returns)
+    tie.close (tie.spec place-after-zero-requires mul-t9 element-set-from-self one-more-requires returns)

@@ -1,7 +1,7 @@
 -- `Record::fail_in_form` meets its contract: a law a path; a call that goes back is below the step limit.
 use mathlib.Core.Path.{ap}
 use borrow.Author.Needs.{needs}
-use Rattle.places.proofs.TurnLaws.{goes-back}
+use Rattle.turns.proofs.TurnLaws.{goes-back}
 use Rattle.schedule.specs.Record.{acceptedAs}
 use Rattle.schedule.proofs.InFormLaws.{thread-low}
 use Rattle.schedule.proofs.CallLaws.{failed-past, failed-there}

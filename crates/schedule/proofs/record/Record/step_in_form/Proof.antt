@@ -4,7 +4,7 @@ use lib.ListN.{length, length-map}
 use borrow.Author.Needs.{needs}
 use Rattle.waker.specs.Context.{threads}
 use Rattle.channel.specs.Position.{slots}
-use Rattle.places.proofs.TurnLaws.{goes-array, goes-zero}
+use Rattle.turns.proofs.TurnLaws.{goes-array, goes-zero}
 use Rattle.schedule.specs.Record.{acceptedAs, afterArray, afterZero}
 use Rattle.schedule.proofs.InFormLaws.{thread-low, array-bounded, zero-bounded}
 use Rattle.schedule.proofs.CallLaws.{stepped-past, stepped-there}

@@ -1,6 +1,6 @@
 -- `fail_back` meets its contract: one case a failure.
-use Rattle.places.proofs.turn.fail_back.Statement.{statement}
-use Rattle.places.proofs.turn.fail_back.Tie as tie
+use Rattle.turns.proofs.fail_back.Statement.{statement}
+use Rattle.turns.proofs.fail_back.Tie as tie
 
 enum-told : tie.Need-enum-told
 enum-told c = c .match .keys1

@@ -1,15 +1,15 @@
 //! What begin, step, fail and take make of a thread that is there, by where it stands.
 ghost use mathlib.Core.Path.{_≡_};
 ghost use Rattle.bounds.specs.Limits.{stepping};
-ghost use Rattle.places.specs.Turn.{startedFrom, begunFrom, limited, goesOn, failsBack, failsFrom, takenFrom};
-use crate::begin::Start;
-use crate::place::Place;
+ghost use Rattle.turns.specs.Turn.{startedFrom, begunFrom, limited, goesOn, failsBack, failsFrom, takenFrom};
 use array::call::ArrayCall;
 use array::weak::Failure;
 use bounds::limits;
 use bounds::limits::Verdict;
 use bounds::refusal::Refusal;
 use bounds::refusal::Reply;
+use places::begin::Start;
+use places::place::Place;
 use zero::call::ZeroCall;
 
 /// What begin or take makes of a thread: a refusal, or another place and the reply.

@@ -1,6 +1,6 @@
 -- `limited` meets its contract: one case a verdict.
-use Rattle.places.proofs.turn.limited.Statement.{statement}
-use Rattle.places.proofs.turn.limited.Tie as tie
+use Rattle.turns.proofs.limited.Statement.{statement}
+use Rattle.turns.proofs.limited.Tie as tie
 
 stepping-requires : tie.Need-stepping-requires
 stepping-requires c κs = tt

@@ -1,8 +1,8 @@
 -- `fail` meets its contract: one case a step's call.
 use mathlib.Core.Path.{ap, _∙_}
-use Rattle.places.specs.Turn.{failsBack}
-use Rattle.places.proofs.turn.fail.Statement.{statement}
-use Rattle.places.proofs.turn.fail.Tie as tie
+use Rattle.turns.specs.Turn.{failsBack}
+use Rattle.turns.proofs.fail.Statement.{statement}
+use Rattle.turns.proofs.fail.Tie as tie
 
 enum-known-running : tie.Need-enum-known-running
 enum-known-running c = c .match .keys1

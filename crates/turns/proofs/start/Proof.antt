@@ -1,6 +1,6 @@
 -- `start` meets its contract: one case a start.
-use Rattle.places.proofs.turn.start.Statement.{statement}
-use Rattle.places.proofs.turn.start.Tie as tie
+use Rattle.turns.proofs.start.Statement.{statement}
+use Rattle.turns.proofs.start.Tie as tie
 
 enum-told : tie.Need-enum-told
 enum-told c = c .match .keys1

@@ -1,6 +1,6 @@
 -- `begin` meets its contract: one case a place.
-use Rattle.places.proofs.turn.begin.Statement.{statement}
-use Rattle.places.proofs.turn.begin.Tie as tie
+use Rattle.turns.proofs.begin.Statement.{statement}
+use Rattle.turns.proofs.begin.Tie as tie
 
 enum-told : tie.Need-enum-told
 enum-told c = c .match .keys1

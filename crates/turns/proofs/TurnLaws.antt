@@ -13,13 +13,13 @@ use Rattle.zero.specs.declared.call.ZeroCall.{ZeroCall}
 use Rattle.bounds.specs.Limits.{stepLimit, stepping}
 use Rattle.bounds.specs.declared.limits.Verdict.the-variants as verdict
 use Rattle.bounds.specs.declared.refusal.Refusal.the-variants.{StepLimit}
-use Rattle.places.specs.Turn.{limited, goesOn, failsBack, failsFrom}
+use Rattle.turns.specs.Turn.{limited, goesOn, failsBack, failsFrom}
 use Rattle.places.specs.declared.place.Place.{Place}
 use Rattle.places.specs.declared.place.Place.the-variants.{Idle, Array, Zero, Done}
-use Rattle.places.specs.declared.turn.Failing.{Failing}
-use Rattle.places.specs.declared.turn.Failing.the-variants as failing
-use Rattle.places.specs.declared.turn.Running.{Running}
-use Rattle.places.specs.declared.turn.Running.the-variants as running
+use Rattle.turns.specs.declared.Failing.{Failing}
+use Rattle.turns.specs.declared.Failing.the-variants as failing
+use Rattle.turns.specs.declared.Running.{Running}
+use Rattle.turns.specs.declared.Running.the-variants as running
 
 -- Refused at the limit, or as it was below it.
 module _ (P : Running → Type 0) (s : ℕ) (v : Running) where

@@ -1,6 +1,6 @@
 -- `take` meets its contract: one case a place.
-use Rattle.places.proofs.turn.take.Statement.{statement}
-use Rattle.places.proofs.turn.take.Tie as tie
+use Rattle.turns.proofs.take.Statement.{statement}
+use Rattle.turns.proofs.take.Tie as tie
 
 enum-told : tie.Need-enum-told
 enum-told c = c .match .keys1

@@ -8,16 +8,16 @@ use Rattle.bounds.specs.declared.limits.Verdict.{Verdict}
 use Rattle.bounds.specs.declared.limits.Verdict.the-variants as verdict
 use Rattle.bounds.specs.declared.refusal.Refusal.the-variants.{NotIdle, NotRunning, UnknownCall, NoAnswer, NoExchange}
 use Rattle.bounds.specs.declared.refusal.Reply.the-variants as reply
 use Rattle.places.specs.declared.begin.Start.{Start}
 use Rattle.places.specs.declared.begin.Start.the-variants.{None, At}
 use Rattle.places.specs.declared.place.Place.{Place}
 use Rattle.places.specs.declared.place.Place.the-variants.{Idle, Array, Zero, Done}
-use Rattle.places.specs.declared.turn.Failing.{Failing}
-use Rattle.places.specs.declared.turn.Failing.the-variants as failing
-use Rattle.places.specs.declared.turn.Running.{Running}
-use Rattle.places.specs.declared.turn.Running.the-variants as running
-use Rattle.places.specs.declared.turn.Turn.{Turn}
-use Rattle.places.specs.declared.turn.Turn.the-variants.{Refused, Stands}
+use Rattle.turns.specs.declared.Failing.{Failing}
+use Rattle.turns.specs.declared.Failing.the-variants as failing
+use Rattle.turns.specs.declared.Running.{Running}
+use Rattle.turns.specs.declared.Running.the-variants as running
+use Rattle.turns.specs.declared.Turn.{Turn}
+use Rattle.turns.specs.declared.Turn.the-variants.{Refused, Stands}
 
 -- Begin. 7: no such call on this channel.
 abbrev pub startedFrom : Start → Turn

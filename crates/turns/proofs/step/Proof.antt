@@ -1,6 +1,6 @@
 -- `step` meets its contract: one case a place.
-use Rattle.places.proofs.turn.step.Statement.{statement}
-use Rattle.places.proofs.turn.step.Tie as tie
+use Rattle.turns.proofs.step.Statement.{statement}
+use Rattle.turns.proofs.step.Tie as tie
 
 enum-told : tie.Need-enum-told
 enum-told c = c .match .keys1

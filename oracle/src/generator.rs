@@ -1,4 +1,4 @@
-//! Schedule texts: random ones by a seed, and every order of the steps of two calls.
+//! Schedule texts: random ones and long logs by a seed, and every order of the steps of two calls.
 
 /// A small random number generator (xorshift64*), so that a seed always makes the same texts.
 pub struct Random(u64);
@@ -146,6 +146,208 @@ pub fn text(seed: u64) -> Vec<u8> {
         text.push(b'\n');
     }
     text
+}
+
+/// Which channel a log is of; the bench makes logs, and the oracle none.
+#[allow(dead_code)]
+#[derive(Clone, Copy)]
+pub struct Kind {
+    pub array: bool,
+    pub threads: u64,
+}
+
+/// How long a log may be.
+const LOG_LIMIT: usize = 60_000;
+
+/// Lines of a log that are refused whatever its channel stands at.
+const REFUSED: [&str; 10] = ["", "0200\r", "020A", "02ff", "04f0", "0509", "0600", "000101", "010901000000010000000f", "03ffffffff"];
+
+/// Where a thread of a log stands. On an array a call runs, at the places A to F, 0 to 5, with the number of claims that it has loaded;
+/// on a rendezvous it comes to its first section, and then waits, was picked, has picked the partner that it meets, or leaves.
+#[derive(Clone, Copy, PartialEq)]
+enum At {
+    Idle,
+    Runs { code: u64, place: u64, seen: u64 },
+    First { code: u64 },
+    Waits { code: u64 },
+    Picked { polled: bool, ready: bool },
+    Meets { partner: u64, passed: bool },
+    Leaves,
+    Ended,
+}
+
+/// A log's channel, followed (but for a disconnect) so that most lines are accepted. An array has the claims of sends and of receives, and
+/// of each slot twice its lap, and one more while it holds a message; a rendezvous has the queue of both sides, the oldest first.
+struct Log {
+    kind: Kind,
+    capacity: u64,
+    clock: u64,
+    threads: [At; 8],
+    deadlines: [u64; 8],
+    claims: [u64; 2],
+    slots: [u64; 64],
+    queue: Vec<u64>,
+}
+
+impl Log {
+    fn new(r: &mut Random, kind: Kind) -> Log {
+        let capacity = match kind.array {
+            false => 0,
+            true if r.once_in(4) => 1 + r.below(64),
+            true => r.one_of(&[1, 1, 2, 2, 3, 4, 5, 7, 8, 64]),
+        };
+        let (threads, deadlines) = ([At::Idle; 8], [NO_DEADLINE; 8]);
+        Log { kind, capacity, clock: 0, threads, deadlines, claims: [0; 2], slots: [0; 64], queue: Vec::new() }
+    }
+
+    /// Mostly a call that goes through.
+    fn code(&self, r: &mut Random) -> u64 {
+        let first = self.queue.first().map(|t| self.threads[*t as usize]);
+        let waiting = self.queue.len() as u64;
+        let held = self.claims[0] - self.claims[1];
+        let choices: &[u64] = match (self.kind.array, r.below(32)) {
+            (_, 0) => &[5, 6, 7, 8],
+            (true, 4..) if held == 0 => &[1],
+            (true, 4..) if held == self.capacity => &[2],
+            (true, _) => &[1, 2],
+            (false, 1..4) => &[1, 2, 3, 4],
+            (false, _) if 2 * waiting < self.kind.threads => &[3, 4],
+            (false, _) if first == Some(At::Waits { code: 3 }) => &[2, 4, 4, 4],
+            (false, _) => &[1, 3, 3, 3],
+        };
+        r.one_of(choices)
+    }
+
+    /// A call begins. It has a deadline where all others are in the same call, so that not all wait for ever.
+    fn begin(&mut self, r: &mut Random, t: u64, code: u64) -> String {
+        let same = |other: &At| matches!(*other, At::First { code: c } | At::Waits { code: c } if c == code);
+        let all = self.threads.iter().filter(|at| same(at)).count() as u64 + 1 == self.kind.threads;
+        let limited = (code == 3 || code == 4) && (all || r.once_in(5));
+        let deadline = if limited { self.clock + r.below(5) } else { NO_DEADLINE };
+        self.deadlines[t as usize] = deadline;
+        self.threads[t as usize] = if self.kind.array { At::Runs { code, place: 0, seen: 0 } } else { At::First { code } };
+        begin(t, code, r.below(1 << 32), deadline)
+    }
+
+    /// Where a step takes a send or a receive on an array.
+    fn pass(&mut self, code: u64, place: u64, seen: u64) -> At {
+        let side = code as usize - 1;
+        let slot = &mut self.slots[(seen % self.capacity) as usize];
+        let due = 2 * (seen / self.capacity) + side as u64;
+        let at = |place, seen| At::Runs { code, place, seen };
+        match place {
+            0 => at(1, self.claims[side]),
+            1 if *slot == due => at(2, seen),
+            1 if *slot + 1 == due => at(3, seen),
+            2 if self.claims[side] == seen => {
+                self.claims[side] += 1;
+                at(4, seen)
+            }
+            3 if [self.claims[1] + self.capacity, self.claims[0]][side] == seen => At::Ended,
+            4 => at(5, seen),
+            5 => {
+                *slot = due + 1;
+                At::Ended
+            }
+            _ => at(0, 0),
+        }
+    }
+
+    /// Where a step takes a call on an array that only asks.
+    fn ask(&self, code: u64, place: u64, seen: u64) -> At {
+        let tail = self.claims[0];
+        match (code, place) {
+            (5, 2) if tail == seen => At::Ended,
+            (5, 2) => At::Runs { code, place: 0, seen: 0 },
+            (5..=7, 0) => At::Runs { code, place: 1, seen: tail },
+            (5, 1) => At::Runs { code, place: 2, seen },
+            _ => At::Ended,
+        }
+    }
+
+    /// Where the first section takes a call on a rendezvous.
+    fn meet(&mut self, t: u64, code: u64) -> At {
+        let opposed = |t: &u64| matches!(self.threads[*t as usize], At::Waits { code: other } if other % 2 != code % 2);
+        if code > 4 {
+            return At::Ended;
+        }
+        if let Some(at) = self.queue.iter().position(opposed) {
+            let partner = self.queue.remove(at);
+            self.threads[partner as usize] = At::Picked { polled: false, ready: false };
+            return At::Meets { partner, passed: false };
+        }
+        if code <= 2 {
+            return At::Ended;
+        }
+        self.queue.push(t);
+        At::Waits { code }
+    }
+
+    /// Where a step takes a thread.
+    fn step(&mut self, t: u64) -> At {
+        match self.threads[t as usize] {
+            At::Runs { code: code @ 1..=2, place, seen } => self.pass(code, place, seen),
+            At::Runs { code, place, seen } => self.ask(code, place, seen),
+            At::First { code } => self.meet(t, code),
+            At::Waits { .. } if self.clock >= self.deadlines[t as usize] => {
+                self.queue.retain(|other| *other != t);
+                At::Leaves
+            }
+            At::Picked { polled: true, ready: true } | At::Leaves => At::Ended,
+            At::Picked { ready, .. } => At::Picked { polled: true, ready },
+            At::Meets { partner, passed: false } => At::Meets { partner, passed: true },
+            At::Meets { partner, .. } => {
+                if let At::Picked { ready, .. } = &mut self.threads[partner as usize] {
+                    *ready = true;
+                }
+                At::Ended
+            }
+            same => same,
+        }
+    }
+
+    /// The next line of a thread: now and then one that is refused, or an exchange that fails.
+    fn turn(&mut self, r: &mut Random, t: u64, late: bool) -> String {
+        let at = self.threads[t as usize];
+        let (line, next) = match at {
+            At::Idle if r.once_in(25) => (2, at),
+            At::Idle => {
+                let code = if late && r.once_in(4) { 9 } else { self.code(r) };
+                return self.begin(r, t, code);
+            }
+            At::Ended => (4, At::Idle),
+            At::Runs { code: code @ 1..=2, place: 2, .. } if r.once_in(25) => (5, At::Runs { code, place: 0, seen: 0 }),
+            _ if r.once_in(100) => (4, at),
+            _ => (2, self.step(t)),
+        };
+        self.threads[t as usize] = next;
+        format!("0{line}{t:02x}")
+    }
+}
+
+/// A long text, as a log of workers: mostly steps, and nearly all accepted; a disconnect comes late, if at all.
+#[allow(dead_code)]
+pub fn log(kind: Kind, seed: u64) -> Vec<u8> {
+    let r = &mut Random::new(seed);
+    let mut log = Log::new(r, kind);
+    let mut text = format!("00{:02x}{:02x}\n", log.capacity, kind.threads);
+    while text.len() + 23 <= LOG_LIMIT {
+        let mut t = r.below(kind.threads);
+        while log.threads[t as usize] == At::Idle && r.once_in(2) {
+            t = r.below(kind.threads);
+        }
+        text += &match r.below(200) {
+            0 => r.one_of(&REFUSED).to_string(),
+            1..4 => {
+                let ticks = r.below(4);
+                log.clock += ticks;
+                format!("03{ticks:08x}")
+            }
+            _ => log.turn(r, t, text.len() + 1000 > LOG_LIMIT),
+        };
+        text.push('\n');
+    }
+    text.into_bytes()
 }
 
 /// What two calls may find: nothing, a full or half full array, a stalled claim, a waiter, a disconnect.

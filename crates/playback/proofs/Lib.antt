@@ -1,3 +1,3 @@
-pub mod ServedLaws
+pub mod HeadingLaws
 pub mod RunLaws
 pub mod TraceLaws

@@ -8,10 +8,10 @@ use Rattle.text.specs.Output.{Put}
 use Rattle.text.proofs.PasteLaws.{put-put, put-length}
 use Rattle.saved.specs.Line.{lineLength, recordLine}
 use Rattle.saved.proofs.LineLaws.{length-record}
-use Rattle.playback.specs.Served.{replyLine}
+use Rattle.served.specs.Served.{replyLine}
 use Rattle.playback.specs.Trace.{shownRoom, shownFor}
-use Rattle.playback.specs.declared.held.Served.{Served}
-use Rattle.playback.proofs.ServedLaws.{line-room}
+use Rattle.served.specs.declared.held.Served.{Served}
+use Rattle.served.proofs.ServedLaws.{line-room}
 
 pub reply-fits : (y : Reply) (n : ℕ) → shownRoom ≤ n → 0 + length (replyLine y) ≤ n
 reply-fits y n room = omega (arith, line-room y)

@@ -1,3 +1,3 @@
-pub mod Served
+pub mod Heading
 pub mod Output
 pub mod Trace

@@ -1,23 +1,17 @@
 -- The output of a schedule text, as a function from bytes to bytes.
 use Prim.Native.Nat.{ℕ, _+_, _*_}
 use mathlib.Core.Path.{_≡_}
-use mathlib.Core.List.{List, [], _∷_, _++_}
+use mathlib.Core.List.{List, _++_}
 use lib.Dec.{ltb}
 use lib.ListN.{length, drop}
 use Rattle.waker.specs.Choice.{if_then_else_}
 use Rattle.bounds.specs.declared.refusal.Refusal.the-variants.{TooLong}
 use Rattle.bounds.specs.declared.refusal.Reply.the-variants.{Refused}
 use Rattle.text.specs.Lines.{linesOf}
-use Rattle.text.specs.Frames.{parseOf}
-use Rattle.playback.specs.Served.{nothingMade, servedFor, replyLine}
-use Rattle.playback.specs.declared.held.Held.{Held}
+use Rattle.served.specs.Served.{nothingMade, replyLine}
+use Rattle.served.specs.Replies.{repliesTo}
 use Rattle.playback.specs.declared.run.Written.{Written}
 use Rattle.playback.specs.declared.run.Written.the-variants.{Whole, Short}
-
--- One output line a line, in order.
-unfoldable pub repliesTo : Held → List (List ℕ) → List ℕ
-repliesTo h [] = []
-repliesTo h (l ∷ ls) = replyLine (servedFor h (parseOf l) .reply) ++ repliesTo (servedFor h (parseOf l) .held) ls
 
 -- 13: text above 60,000 bytes: this one output line, no other.
 unfoldable pub outputOf : List ℕ → List ℕ

@@ -2,8 +2,8 @@
 use Prim.Native.Nat.{ℕ}
 use mathlib.Core.List.{List, _++_}
 use Rattle.saved.specs.Line.{recordLine}
-use Rattle.playback.specs.Served.{replyLine}
-use Rattle.playback.specs.declared.held.Served.{Served}
+use Rattle.served.specs.Served.{replyLine}
+use Rattle.served.specs.declared.held.Served.{Served}
 
 -- `SHOWN` of the code: a take's line and a record's line.
 abbrev pub shownRoom : ℕ

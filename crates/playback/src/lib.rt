@@ -1,5 +1,3 @@
 //! The replay of a schedule text: from the lent text to the whole output, in a lent buffer.
-pub mod held;
-pub mod reply;
 pub mod run;
 pub mod trace;

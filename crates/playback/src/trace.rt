@@ -3,9 +3,9 @@ ghost use Prim.Native.Nat.{_≤_};
 ghost use lib.ListN.{length};
 ghost use Rattle.text.specs.Output.{Put};
 ghost use Rattle.playback.specs.Trace.{shownRoom, shownFor};
-use crate::held::Served;
-use crate::reply;
 use saved::line;
+use served::held::Served;
+use served::reply;
 
 /// The longest that the trace shows of a frame.
 pub const SHOWN: usize = 3_278;

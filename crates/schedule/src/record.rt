@@ -45,7 +45,7 @@ pub struct Replied {
 }
 
 /// Where a thread stands after a step on an array.
-fn place_after_array(next: ArrayNext) -> Place
+pub fn place_after_array(next: ArrayNext) -> Place
     ensures { λ r. ⌜ r ≡ placeAfterArray next ⌝ }
 {
     match next {
@@ -55,7 +55,7 @@ fn place_after_array(next: ArrayNext) -> Place
 }
 
 /// Where a thread stands after a step on a rendezvous.
-fn place_after_zero(next: ZeroNext) -> Place
+pub fn place_after_zero(next: ZeroNext) -> Place
     ensures { λ r. ⌜ r ≡ placeAfterZero next ⌝ }
 {
     match next {

@@ -67,3 +67,13 @@ formOf k s =
 -- The first digit of every form is 0. Past its end a short line reads as byte 0, which is no digit and names no form.
 unfoldable pub parseOf : List ℕ → Frame
 parseOf l = if eqb (getD l 0 0) 0x30 then formOf (getD l 1 0) (drop 2 l) else Malformed
+
+-- The thread whose step a frame is, or 256, which two digits do not spell.
+abbrev pub stepThread : Frame → ℕ
+stepThread (Header c n) = 256
+stepThread (Begin t c m d) = 256
+stepThread (Step t) = t .0
+stepThread (Advance n) = 256
+stepThread (Take t) = 256
+stepThread (Fail t) = 256
+stepThread Malformed = 256

@@ -1,8 +1,9 @@
 //! The frames that lines spell.
 ghost use mathlib.Core.Path.{_≡_};
-ghost use Rattle.text.specs.Frames.{headerOf, beginOf, threadOf, stepOf, advanceOf, takeOf, failOf, parseOf};
+ghost use Rattle.text.specs.Frames.{headerOf, beginOf, threadOf, stepOf, advanceOf, takeOf, failOf, parseOf, stepThread};
 ghost use Rattle.text.specs.Texts.{ReadWritten, WrittenRead};
 use crate::hex::Number;
+use crate::hex::digit;
 use crate::hex::hex;
 use channel::answer::Tick;
 use waker::context::Thread;
@@ -33,6 +34,9 @@ pub enum Frame {
     },
     Malformed,
 }
+
+/// What stands for no thread.
+pub const NO_THREAD: u32 = 256;
 
 /// `cctt` after `00`: capacity and thread count.
 fn header(digits: &[u8]) -> Frame
@@ -167,6 +171,28 @@ pub fn parse(line: &[u8]) -> Frame
         return header(digits);
     }
     Frame::Malformed
+}
+
+/// The thread whose step a line spells, or 256, which is no thread's number: most lines are steps, and want no frame made of them.
+pub fn step_thread(line: &[u8]) -> u32
+    ensures { λ r. ⌜ r ≡ stepThread (parseOf (now (line .entry))) ⌝ }
+{
+    if line.len() != 4 {
+        return NO_THREAD;
+    }
+    if line[0] != b'0' {
+        return NO_THREAD;
+    }
+    if line[1] != b'2' {
+        return NO_THREAD;
+    }
+    let Number::Is(high) = digit(line[2]) else {
+        return NO_THREAD;
+    };
+    let Number::Is(low) = digit(line[3]) else {
+        return NO_THREAD;
+    };
+    high * 16 + low
 }
 
 /// Each frame whose fields fit is spelled by one line, and each line that is not malformed is such a line.

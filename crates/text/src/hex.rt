@@ -11,7 +11,7 @@ pub enum Number {
 }
 
 /// What a digit stands for: `0` to `9` and `a` to `f` are digits, and no other byte is.
-fn digit(b: u8) -> Number
+pub fn digit(b: u8) -> Number
     ensures { λ r. ⌜ r ≡ digitOf b ⌝ }
 {
     if b < b'0' {

@@ -7,11 +7,11 @@ use bounds::refusal::Reply;
 use input::Input;
 use libc::STDERR_FILENO;
 use libc::STDOUT_FILENO;
-use playback::held::Held;
-use playback::reply;
 use playback::run::TEXT_LIMIT;
 use playback::trace;
 use playback::trace::SHOWN;
+use served::held::Held;
+use served::reply;
 use text::frame;
 use text::lines;
 

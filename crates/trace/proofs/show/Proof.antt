@@ -7,8 +7,8 @@ use lib.ListN.{length}
 use lib.Seq.{length-take-le}
 use borrow.Author.Needs.{needs}
 use Rattle.playback.specs.Trace.{shownRoom}
-use Rattle.playback.proofs.ServedLaws.{GrownHeld, grown-nothing, grown-standing, grown-served}
-use Rattle.playback.proofs.RunLaws.{line-within}
+use Rattle.served.proofs.ServedLaws.{GrownHeld, grown-nothing, grown-standing, grown-served}
+use Rattle.served.proofs.RunLaws.{line-within}
 use Rattle.playback.proofs.TraceLaws.{shown-fits}
 use Rattle.trace.proofs.show.Statement.{statement}
 use Rattle.trace.proofs.show.Tie as tie

@@ -1,0 +1,2 @@
+pub mod LeftLaws
+pub mod LoopLaws

@@ -1,0 +1,2 @@
+pub mod ServedLaws
+pub mod RunLaws

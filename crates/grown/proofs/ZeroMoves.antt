@@ -4,7 +4,7 @@ use mathlib.Core.Path.{_≡_, refl, _∙_}
 use mathlib.Core.Bool.{false}
 use native.Mathlib.Omega.{arith}
 use lib.ListN.{length-set}
-use Rattle.waker.specs.Context.{threads, thread}
+use Rattle.waker.specs.Context.{thread}
 use Rattle.waker.specs.declared.context.Thread.{Thread}
 use Rattle.waker.specs.declared.context.Selected.{Selected}
 use Rattle.waker.specs.declared.wakers.Side.{Side}

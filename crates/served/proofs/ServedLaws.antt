@@ -1,14 +1,13 @@
 -- Laws of the answer to one frame: what is held stays grown, so in form, and its output line is short.
-use Prim.Native.Nat.{ℕ, _+_, _-_, _*_, _≤_}
+use Prim.Native.Nat.{ℕ, _+_, _*_, _≤_}
 use mathlib.Core.Path.{_≡_, refl, sym, ap, _∙_}
 use mathlib.Core.Bool.{Bool, true, false}
 use mathlib.Core.List.{List, [], _∷_, _++_}
 use native.Mathlib.Omega.{arith}
 use lib.Dec.{eqb, lit≤}
-use lib.ListN.{length, getD, take, drop, length-drop}
-use borrow.Author.Tests.{eqb-true, eq-eqb, ne-eqb}
+use lib.ListN.{length}
+use borrow.Author.Tests.{eq-eqb, ne-eqb}
 use Rattle.waker.specs.Choice.{if_then_else_}
-use Rattle.waker.specs.Context.{thread}
 use Rattle.channel.specs.Answer.{kindOf, valueOf}
 use Rattle.channel.specs.declared.answer.Answer.{Answer}
 use Rattle.bounds.specs.Limits.{making}
@@ -27,13 +26,11 @@ use Rattle.schedule.specs.Calls.{formed}
 use Rattle.schedule.specs.History.{Act, begins, steps, fails, advances, takes, actOn, after, Fresh, fresh-array, fresh-zero}
 use Rattle.schedule.specs.declared.record.Record.{Record}
 use Rattle.schedule.specs.declared.record.Replied.{Replied}
-use Rattle.text.specs.Hex.{hexOf}
-use Rattle.text.specs.Frames.{given, headerOf, beginOf, threadOf, stepOf, advanceOf, takeOf, failOf, formOf, parseOf}
+use Rattle.text.specs.Frames.{parseOf}
 use Rattle.text.specs.Output.{codeLine, tookLine, Put}
-use Rattle.text.specs.declared.hex.Number.{Number}
-use Rattle.text.specs.declared.hex.Number.the-variants as number
 use Rattle.text.specs.declared.frame.Frame.{Frame}
 use Rattle.text.specs.declared.frame.Frame.the-variants.{Header, Begin, Step, Advance, Take, Fail, Malformed}
+use Rattle.text.proofs.TextLaws.{written-read}
 use Rattle.grown.proofs.Tests.{clash}
 use Rattle.grown.proofs.Acts.{every-reply}
 use Rattle.grown.proofs.Grown.{grown-in-form}
@@ -169,73 +166,25 @@ call-long r =
     refused (advances k) n = lit≤ tt
     refused (takes t) n = lit≤ tt
 
--- Four bytes spell a take.
-abbrev taking : Frame → ℕ
-taking (Header c n) = 0
-taking (Begin t c m d) = 0
-taking (Step t) = 0
-taking (Advance n) = 0
-taking (Take t) = 4
-taking (Fail t) = 0
-taking Malformed = 0
-
-taking-given : (n : ℕ) (x : Number) (f : ℕ → Frame) → ((k : ℕ) → taking (f k) ≤ n) → taking (given x f) ≤ n
-taking-given n (number.Is k) f h = h k
-taking-given n number.None f h = omega arith
-
-taking-take : (l : List ℕ) → taking (takeOf l) ≤ length l + 2
-unfolding takeOf threadOf if_then_else_
-taking-take l = go (eqb (length l) 2) refl
-  where
-    go : (b : Bool) → eqb (length l) 2 ≡ b →
-        taking (given (if b then hexOf 0 l else number.None) (λ t. Take (thread t))) ≤ length l + 2
-    go true e =
-        let few : taking (given (hexOf 0 l) (λ t. Take (thread t))) ≤ 4 = taking-given 4 (hexOf 0 l) _ (λ k. lit≤ tt) in
-        omega (arith, eqb-true (length l) 2 e)
-    go false e = omega arith
-
-taking-form : (k : ℕ) (l : List ℕ) → taking (formOf k l) ≤ length l + 2
-unfolding formOf headerOf beginOf stepOf advanceOf failOf
-taking-form k l =
-    let n : ℕ = length l + 2 in
-    let none : 0 ≤ length l + 2 = omega arith in
-    both taking n _ _ _
-    (both taking n _ _ _ (taking-given n (hexOf 0 (take 2 l)) _ (λ c. taking-given n (hexOf 0 (drop 2 l)) _ (λ t. none))) none)
-    (both taking n _ _ _
-    (both taking n _ _ _
-    (taking-given n (hexOf 0 (take 2 l)) _ (λ t.
-    taking-given n (hexOf 0 (take 2 (drop 2 l))) _ (λ o.
-    taking-given n (hexOf 0 (take 8 (drop 4 l))) _ (λ m.
-    taking-given n (hexOf 0 (drop 12 l)) _ (λ d. none)))))
-    none)
-    (both taking n _ _ _ (taking-given n (threadOf l) _ (λ t. none))
-    (both taking n _ _ _ (both taking n _ _ _ (taking-given n (hexOf 0 l) _ (λ d. none)) none)
-    (both taking n _ _ _ (taking-take l) (both taking n _ _ _ (taking-given n (threadOf l) _ (λ t. none)) none)))))
-
-taking-line : (l : List ℕ) → taking (parseOf l) ≤ length l - 2 + 2
-unfolding parseOf
-taking-line l =
-    both taking (length l - 2 + 2) _ _ _ (omega (arith, taking-form (getD l 1 0) (drop 2 l), length-drop 2 l)) (omega arith)
-
--- A line of n bytes.
-served-long : (h : Held) (f : Frame) (n : ℕ) → taking f ≤ n - 2 + 2 → longServed (servedFor h f) ≤ 3 * (n + 1)
-unfolding servedFor
-served-long h (Header c k) n e = both longServed (3 * (n + 1)) (h .made) _ _ (omega arith) (omega (arith, making-long c k))
-served-long h (Begin t c m d) n e =
-    both longServed (3 * (n + 1)) (h .made) _ _ (omega (arith, call-long (h .channel) (begins t c m d))) (omega arith)
-served-long h (Step t) n e =
-    both longServed (3 * (n + 1)) (h .made) _ _ (omega (arith, call-long (h .channel) (steps t))) (omega arith)
-served-long h (Advance k) n e =
-    both longServed (3 * (n + 1)) (h .made) _ _ (omega (arith, call-long (h .channel) (advances k))) (omega arith)
-served-long h (Take t) n e =
-    both longServed (3 * (n + 1)) (h .made) _ _ (omega (arith, call-long (h .channel) (takes t))) (omega arith)
-served-long h (Fail t) n e =
-    both longServed (3 * (n + 1)) (h .made) _ _ (omega (arith, call-long (h .channel) (fails t))) (omega arith)
-served-long h Malformed n e = omega arith
-
--- The output line of a line is at most three times as long as the line with its 0a.
+-- The output line of a line is at most three times as long as the line with its 0a: a take's has four bytes.
 pub line-length : (h : Held) (l : List ℕ) → length (replyLine (servedFor h (parseOf l) .reply)) ≤ 3 * (length l + 1)
-line-length h l = served-long h (parseOf l) (length l) (taking-line l)
+unfolding servedFor
+line-length h l = go (parseOf l) refl
+  where
+    short : (r : Record) (a : Act) → roomFor a ≤ 3 * (length l + 1) →
+        longServed (onceMade h (actOn r a)) ≤ 3 * (length l + 1)
+    short r a k = both longServed (3 * (length l + 1)) (h .made) _ _ (omega (arith, k, call-long r a)) (omega arith)
+
+    go : (f : Frame) → parseOf l ≡ f → longServed (servedFor h f) ≤ 3 * (length l + 1)
+    go (Header c k) e = both longServed (3 * (length l + 1)) (h .made) _ _ (omega arith) (omega (arith, making-long c k))
+    go (Begin t c m d) e = short (h .channel) (begins t c m d) (omega arith)
+    go (Step t) e = short (h .channel) (steps t) (omega arith)
+    go (Advance k) e = short (h .channel) (advances k) (omega arith)
+    go (Take t) e =
+        short (h .channel) (takes t)
+        (omega (arith, ap length (written-read l (Take t) e (λ x. let w : _≡_ {A = ℕ} 0 1 = cc in omega arith) .1)))
+    go (Fail t) e = short (h .channel) (fails t) (omega arith)
+    go Malformed e = omega arith
 
 -- Laws of what is made.
 abbrev pub headedWith : Replied → Bool → Served

@@ -40,7 +40,7 @@ use Rattle.schedule.specs.Making.{freshArrayRecord, madeArray}
 use Rattle.schedule.specs.Form.{InForm, placeInForm}
 use Rattle.schedule.specs.History.{fresh-array, after}
 use Rattle.schedule.specs.declared.record.ThreadRecord.{ThreadRecord}
-use Rattle.schedule.proofs.InFormLaws.{array-bounded}
+use Rattle.schedule.proofs.InFormLaws.{count-low, placed, array-bounded}
 use Rattle.grown.proofs.Tests.{clash}
 use Rattle.grown.proofs.ArrayGrown.{stamps-length}
 use Rattle.served.specs.Served.{servedFor, replyLine}
@@ -49,7 +49,7 @@ use Rattle.served.proofs.ServedLaws.{GrownHeld}
 use Rattle.served.proofs.RunLaws as run
 use Rattle.frames.specs.Left.{countsOf}
 use Rattle.frames.specs.declared.Counts.{Counts}
-use Rattle.frames.proofs.LoopLaws.{few, placed, here-stepped}
+use Rattle.frames.proofs.LoopLaws.{here-past, here-stepped}
 use Rattle.array_replay.specs.Written.{cellsOf, writtenSlot, cellsAfter}
 use Rattle.array_replay.proofs.PartLaws.{in-slot, joined, outcome, cells, stepped-cells}
 
@@ -97,11 +97,15 @@ module _ {t out₀ : List ℕ} {from start capacity n : ℕ} {S : Shape} where
     pub formed : InForm (joined S n ss ms h l ts c)
     formed = run.running-stands t out₀ _ from start (P .runs) refl
 
+    -- Past the step of a thread that is there.
+    pub past : (line : List ℕ) {q : ℕ} → q ≡ stepThread (parseOf line) → q < n → at + 5 ≡ at + length line + 1
+    past line eq low = here-past (joined S n ss ms h l ts c) formed line _ eq low at
+
     -- A line that is the step of a thread that is there.
     module _ (line : List ℕ) {q : ℕ} (eq : q ≡ stepThread (parseOf line)) (low : q < n)
         {p : Place} (ep : p ≡ placeOf (joined S n ss ms h l ts c) q) {u : Running} (eu : u ≡ goesOn p (c .steps)) where
       there : q < threads
-      there = omega (arith, few (joined S n ss ms h l ts c) formed, low)
+      there = omega (arith, count-low (joined S n ss ms h l ts c) formed, low)
 
       no-zero : (k : ZeroCall) → u ≡ running.Zero k → ⊥
       no-zero k e =
@@ -158,7 +162,8 @@ module _ {t out₀ : List ℕ} {from start capacity n : ℕ} {S : Shape} where
       pub parted-fits : end + length (replyLine y) ≤ length out
       parted-fits = run.running-fits t out₀ _ from start (P .runs) more line el _ y es
 
-      pub parted-turn : length ss' ≡ length ss → {end' : ℕ} {out' : List ℕ} → Put end (replyLine y) end' out out' →
-          Parted t out₀ from start capacity n S ss' ms' h' l' ts' c' (at + length line + 1) end' out'
-      parted-turn e w =
-          record { runs = run.running-turn t out₀ _ from start (P .runs) more line el _ y es _ _ w; long = e ∙ P .long }
+      pub parted-turn : length ss' ≡ length ss → {at' : ℕ} → at' ≡ at + length line + 1 → {end' : ℕ} {out' : List ℕ} →
+          Put end (replyLine y) end' out out' → Parted t out₀ from start capacity n S ss' ms' h' l' ts' c' at' end' out'
+      parted-turn e ea w =
+          rw ea
+          (record { runs = run.running-turn t out₀ _ from start (P .runs) more line el _ y es _ _ w; long = e ∙ P .long })

@@ -50,10 +50,9 @@ pub fn replay(
     let mut at = from;
     let mut end = start;
     while at < text.len() {
-        let line = lines::line(text, at);
-        at = at + line.len() + 1;
-        let stepping = frame::step_thread(line);
+        let stepping = frame::step_thread(text, at);
         if stepping < count {
+            at = at + frame::STEP_LENGTH;
             let t = stepping as usize;
             let thread = threads[t];
             let place = thread.place;
@@ -89,6 +88,8 @@ pub fn replay(
                 }
             }
         } else {
+            let line = lines::line(text, at);
+            at = at + line.len() + 1;
             let frame = frame::parse(line);
             let t = frames::named(frame);
             let thread = threads[t];

@@ -1,6 +1,5 @@
 -- What a frame other than a step leaves of the thread that it names, of the clock and of the steps: the calls' rules, on these alone.
 use Prim.Native.Nat.{ℕ}
-use mathlib.Core.Path.{_≡_}
 use lib.Dec.{leb, ltb}
 use lib.ListN.{set}
 use Rattle.waker.specs.Choice.{if_then_else_}

@@ -197,7 +197,7 @@ module _ (r : Record) (h : InForm r) where
   thread-low t k = omega (arith, count-low)
 
   module _ (t : ℕ) (low : t < threads) where
-    placed : placeInForm (r .flavour) (r .shape) (placeOf r t) ≡ true
+    pub placed : placeInForm (r .flavour) (r .shape) (placeOf r t) ≡ true
     unfolding threadInForm
     placed = and-left _ _ (and-right _ _ (thread-at t low))
 

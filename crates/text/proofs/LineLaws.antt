@@ -1,13 +1,13 @@
 -- Laws of the lines of a text.
-use Prim.Native.Nat.{ℕ, suc, _+_, _-_, _≤_, _<_}
+use Prim.Native.Nat.{ℕ, zero, suc, _+_, _-_, _≤_, _<_}
 use mathlib.Core.Bool.{Bool, true, false}
 use mathlib.Core.Path.{_≡_, refl, ap, sym, _∙_}
 use mathlib.Core.List.{List, [], _∷_, _++_, append-assoc, append-nil}
 use native.Mathlib.Numerals.{add-one}
 use native.Mathlib.Omega.{arith}
 use lib.Dec.{eqb}
-use lib.ListN.{length, getD, take, drop, drop-of-length-le, length-drop}
-use lib.Seq.{take-suc, drop-cons, drop-drop, take-all}
+use lib.ListN.{length, getD, take, drop, drop-of-length-le, length-drop, length-append}
+use lib.Seq.{take-suc, drop-cons, drop-drop, take-all, length-take-le}
 use borrow.Author.Tests.{eq-eqb, ne-eqb}
 use Rattle.waker.specs.Choice.{if_then_else_}
 use Rattle.text.specs.Lines.{atHead, linesOf, lineOf, restOf}
@@ -37,6 +37,10 @@ passed-found s n h eq e = sym (e ∙ rw (drop-cons s n 0, eq-eqb (getD s n 0) 0x
 pub passed-all : (s : List ℕ) (n : ℕ) → length s ≤ n → Passed s n → s ≡ lineOf s
 unfolding Passed lineOf
 passed-all s n h e = sym (e ∙ rw (take-all n s, drop-of-length-le s h) (append-nil s))
+
+pub passed-length : (s : List ℕ) (n : ℕ) → n ≤ length s → Passed s n → n ≤ length (lineOf s)
+unfolding Passed
+passed-length s n h e = omega (arith, ap length e, length-append (take n s) (lineOf (drop n s)), length-take-le n s h)
 
 -- The first line by the test of the first byte.
 first-by : (x : Bool) (b : ℕ) (t : List ℕ) → atHead b (linesOf t) ≡ (b ∷ lineOf t) ∷ linesOf (restOf t) →
@@ -89,3 +93,15 @@ length-line (b ∷ t) = go (eqb b 0x0a) (length-line t)
     go : (x : Bool) → length (lineOf t) ≤ length t → length (if x then [] else b ∷ lineOf t) ≤ suc (length t)
     go true h = omega arith
     go false h = omega arith
+
+-- The bytes of a line are those that its text begins with.
+pub line-byte : (t : List ℕ) (i : ℕ) → i < length (lineOf t) → getD (lineOf t) i 0 ≡ getD t i 0
+unfolding lineOf if_then_else_
+line-byte [] i h = refl
+line-byte (b ∷ t) i h = go (eqb b 0x0a) (line-byte t) i h
+  where
+    go : (x : Bool) → ((j : ℕ) → j < length (lineOf t) → getD (lineOf t) j 0 ≡ getD t j 0) → (j : ℕ) →
+        j < length (if x then [] else b ∷ lineOf t) → getD (if x then [] else b ∷ lineOf t) j 0 ≡ getD (b ∷ t) j 0
+    go true f j k = absurd (omega (arith, k))
+    go false f zero k = refl
+    go false f (suc j) k = f j (omega (arith, k))

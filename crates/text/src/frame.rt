@@ -1,5 +1,8 @@
 //! The frames that lines spell.
 ghost use mathlib.Core.Path.{_≡_};
+ghost use Prim.Native.Nat.{_≤_};
+ghost use lib.ListN.{length, drop};
+ghost use Rattle.text.specs.Lines.{lineOf};
 ghost use Rattle.text.specs.Frames.{headerOf, beginOf, threadOf, stepOf, advanceOf, takeOf, failOf, parseOf, stepThread};
 ghost use Rattle.text.specs.Texts.{ReadWritten, WrittenRead};
 use crate::hex::Number;
@@ -37,6 +40,9 @@ pub enum Frame {
 
 /// What stands for no thread.
 pub const NO_THREAD: u32 = 256;
+
+/// The bytes of a step's line, 0a included.
+pub const STEP_LENGTH: usize = 5;
 
 /// `cctt` after `00`: capacity and thread count.
 fn header(digits: &[u8]) -> Frame
@@ -173,26 +179,41 @@ pub fn parse(line: &[u8]) -> Frame
     Frame::Malformed
 }
 
-/// The thread whose step a line spells, or 256, which is no thread's number: most lines are steps, and want no frame made of them.
-pub fn step_thread(line: &[u8]) -> u32
-    ensures { λ r. ⌜ r ≡ stepThread (parseOf (now (line .entry))) ⌝ }
+/// The thread whose step the first line of a text spells, or 256.
+fn first_step(text: &[u8]) -> u32
+    ensures { λ r. ⌜ r ≡ stepThread (parseOf (lineOf (now (text .entry)))) ⌝ }
 {
-    if line.len() != 4 {
+    if text.len() < 4 {
         return NO_THREAD;
     }
-    if line[0] != b'0' {
+    if text[0] != b'0' {
         return NO_THREAD;
     }
-    if line[1] != b'2' {
+    if text[1] != b'2' {
         return NO_THREAD;
     }
-    let Number::Is(high) = digit(line[2]) else {
+    let Number::Is(high) = digit(text[2]) else {
         return NO_THREAD;
     };
-    let Number::Is(low) = digit(line[3]) else {
+    let Number::Is(low) = digit(text[3]) else {
         return NO_THREAD;
     };
-    high * 16 + low
+    let thread = high * 16 + low;
+    if text.len() == 4 {
+        return thread;
+    }
+    if text[4] != b'\n' {
+        return NO_THREAD;
+    }
+    thread
+}
+
+/// The thread whose step the line at `at` spells, or 256, which is no thread's number. Most lines are steps, and these want neither their end sought nor a frame made of them.
+pub fn step_thread(text: &[u8], at: usize) -> u32
+    requires { ⌜ at ≤ length (now text) ⌝ }
+    ensures { λ r. ⌜ r ≡ stepThread (parseOf (lineOf (drop at (now (text .entry))))) ⌝ }
+{
+    first_step(&text[at..])
 }
 
 /// Each frame whose fields fit is spelled by one line, and each line that is not malformed is such a line.

@@ -48,7 +48,7 @@ use Rattle.schedule.specs.Form.{InForm, placeInForm}
 use Rattle.schedule.specs.History.{Act, Fresh, fresh-array, fresh-zero, after}
 use Rattle.schedule.specs.declared.record.Record.{Record}
 use Rattle.schedule.specs.declared.record.ThreadRecord.{ThreadRecord}
-use Rattle.schedule.proofs.InFormLaws.{zero-bounded}
+use Rattle.schedule.proofs.InFormLaws.{count-low, placed, zero-bounded}
 use Rattle.grown.proofs.Tests.{clash}
 use Rattle.grown.proofs.Acts.{throughout}
 use Rattle.grown.proofs.Makes.{made-array}
@@ -179,14 +179,18 @@ module _ {t out₀ : List ℕ} {from start n : ℕ} {ps : List Packet} {w : Wake
       pub fits : end + length (replyLine y) ≤ length out
       fits = run.running-fits t out₀ _ from start (P .runs) more l el _ y es
 
-      pub turn : {end' : ℕ} {out' : List ℕ} → Put end (replyLine y) end' out out' →
-          Parted t out₀ from start n ps' w' d' ts' c' (at + length l + 1) end' out'
-      turn p = record { runs = run.running-turn t out₀ _ from start (P .runs) more l el _ y es _ _ p }
+      pub turn : {at' : ℕ} → at' ≡ at + length l + 1 → {end' : ℕ} {out' : List ℕ} → Put end (replyLine y) end' out out' →
+          Parted t out₀ from start n ps' w' d' ts' c' at' end' out'
+      turn ea p = rw ea (record { runs = run.running-turn t out₀ _ from start (P .runs) more l el _ y es _ _ p })
 
   -- A thread that is there, by what its call goes on with.
   module _ {q : ℕ} (low : q < n) where
     pub there : q < threads
-    there = omega (arith, loop.few whole formed, low)
+    there = omega (arith, count-low whole formed, low)
+
+    -- Past the line of its step.
+    pub past : (l : List ℕ) → q ≡ stepThread (parseOf l) → at + 5 ≡ at + length l + 1
+    past l eq = loop.here-past whole formed l q eq low at
 
     module _ {u : Running} (eu : u ≡ goesOn (placeOf whole q) (c .steps)) where
       pub here-refused : (l : List ℕ) → q ≡ stepThread (parseOf l) → {m : Refusal} → u ≡ running.Refused m →
@@ -196,7 +200,7 @@ module _ {t out₀ : List ℕ} {from start n : ℕ} {ps : List Packet} {w : Wake
       no-array : (k : ArrayCall) → u ≡ running.Array k → ⊥
       no-array k e =
           let f : placeInForm flavour.Zero noShape (place.Array k) ≡ true =
-          rw (goes-array (placeOf whole q) (c .steps) eu k e .0) at (loop.placed whole formed q there) in
+          rw (goes-array (placeOf whole q) (c .steps) eu k e .0) at (placed whole formed q there) in
           clash (sym f)
 
       -- No call of an array stands here, whatever the code would answer to it.

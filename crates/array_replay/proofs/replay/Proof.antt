@@ -6,10 +6,11 @@ use mathlib.Core.Path.{refl}
 use native.Mathlib.Omega.{arith}
 use lib.ListN.{length, length-set}
 use borrow.Author.Needs.{needs}
+use Rattle.schedule.proofs.InFormLaws.{count-low}
 use Rattle.served.proofs.RunLaws.{line-within, running-all}
 use Rattle.frames.proofs.LeftLaws.{named-below}
-use Rattle.frames.proofs.LoopLaws.{few, here-refused, here-left}
-use Rattle.array_replay.proofs.LoopLaws.{Parted, capacity-low, parted-none, formed, here-zero, bounded, may-step, slot-low, loaded-small, written-low, here-made, parted-fits, parted-turn}
+use Rattle.frames.proofs.LoopLaws.{told, here-refused, here-left}
+use Rattle.array_replay.proofs.LoopLaws.{Parted, capacity-low, parted-none, formed, past, here-zero, bounded, may-step, slot-low, loaded-small, written-low, here-made, parted-fits, parted-turn}
 use Rattle.array_replay.proofs.replay.Statement.{statement}
 use Rattle.array_replay.proofs.replay.Tie as tie
 
@@ -39,17 +40,11 @@ loop-holds c =
     .before .before .before .before .before .before .pre .0) (c .before .before .before .before .before .before .new .ensures) (c
     .before .before .before .before .before .new2 .ensures) (c .new3 .ensures)
 
-line-requires : tie.Need-line-requires Inv-loop μ-loop
-line-requires c κs = omega (arith, c .loop-test .taken)
+step-thread-requires : tie.Need-step-thread-requires Inv-loop μ-loop
+step-thread-requires c κs = omega (arith, c .loop-test .taken)
 
 add-at : tie.Need-add-at Inv-loop μ-loop
-add-at c = omega (arith, line-within _ _ _ (c .before .loop-test .taken) (c .line .ensures))
-
-add-at-2 : tie.Need-add-at-2 Inv-loop μ-loop
-add-at-2 c = omega (arith, line-within _ _ _ (c .before .loop-test .taken) (c .line .ensures))
-
-step-thread-requires : tie.Need-step-thread-requires Inv-loop μ-loop
-step-thread-requires c κs = search needs
+add-at c = omega (arith, c .before .before .loop-test .taken)
 
 cast-t : tie.Need-cast-t Inv-loop μ-loop
 cast-t c = search needs
@@ -59,7 +54,7 @@ mul-thread c = search needs
 
 array-copy-out-thread : tie.Need-array-copy-out-thread Inv-loop μ-loop
 array-copy-out-thread c =
-    omega (arith, few _ (formed (c .before .before .before .before .loop .inv)), c .if1 .taken)
+    omega (arith, count-low _ (formed (c .before .before .before .loop .inv)), c .if1 .taken)
 
 step-requires : tie.Need-step-requires Inv-loop μ-loop
 step-requires c κs = search needs
@@ -71,28 +66,27 @@ put-requires : tie.Need-put-requires Inv-loop μ-loop
 put-requires c κs =
     let s = c .before .before .before .before in
     let l = s .before .before .before .before in
-    let P = l .before .before .loop .inv in
-    parted-fits P (l .before .loop-test .taken) (l .line .ensures) (here-refused _ (formed P) _ _ (s .before .before .before
-    .step-thread .ensures) (s .before .before .if1 .taken) _ refl _ (s .step .ensures) _ (c .before .before .running .given .1))
+    let P = l .before .loop .inv in
+    parted-fits P (l .loop-test .taken) refl (here-refused _ (formed P) _ _ (s .before .before .before .step-thread .ensures)
+    (s .before .before .if1 .taken) _ refl _ (s .step .ensures) _ (c .before .before .running .given .1))
 
 loop-less : tie.Need-loop-less Inv-loop μ-loop
 loop-less c =
     omega (
       arith,
-      c .before .before .before .before .before .before .before .before .before .before .before .before .before .loop
-          .inv .runs .room .within,
-      c .before .before .before .before .before .before .before .before .before .before .before .before
-          .loop-test .taken,
+      c .before .before .before .before .before .before .before .before .before .before .before .before .loop .inv .runs .room .within,
+      c .before .before .before .before .before .before .before .before .before .before .before .loop-test .taken,
     )
 
 loop-again : tie.Need-loop-again Inv-loop μ-loop
 loop-again c =
     let s = c .before .before .before .before .before .before .before in
     let l = s .before .before .before .before in
-    let P = l .before .before .loop .inv in
-    parted-turn P (l .before .loop-test .taken) (l .line .ensures) (here-refused _ (formed P) _ _ (s .before .before .before
-    .step-thread .ensures) (s .before .before .if1 .taken) _ refl _ (s .step .ensures) _ (c .before .before .before .before .before
-    .running .given .1)) refl (c .before .before .put .ensures)
+    let P = l .before .loop .inv in
+    parted-turn P (l .loop-test .taken) refl (here-refused _ (formed P) _ _ (s .before .before .before .step-thread .ensures)
+    (s .before .before .if1 .taken) _ refl _ (s .step .ensures) _
+    (c .before .before .before .before .before .running .given .1)) refl (past P _
+    (s .before .before .before .step-thread .ensures) (s .before .before .if1 .taken)) (c .before .before .put .ensures)
 
 enum-told : tie.Need-enum-told Inv-loop μ-loop
 enum-told c = c .match .keys2
@@ -101,26 +95,28 @@ put-requires-2 : tie.Need-put-requires-2 Inv-loop μ-loop
 put-requires-2 c κs =
     let s = c .before .before .before in
     let l = s .before .before .before .before in
-    let P = l .before .before .loop .inv in
-    parted-fits P (l .before .loop-test .taken) (l .line .ensures)
-    (here-zero P _ (s .before .before .before .step-thread .ensures) (s .before .before .if1 .taken) refl (s .step .ensures) (c .before .enum-told .given .1))
+    let P = l .before .loop .inv in
+    parted-fits P (l .loop-test .taken) refl
+    (here-zero P _ (s .before .before .before .step-thread .ensures) (s .before .before .if1 .taken) refl (s .step .ensures)
+    (c .before .enum-told .given .1))
 
 loop-less-2 : tie.Need-loop-less-2 Inv-loop μ-loop
 loop-less-2 c =
     omega (
       arith,
-      c .before .before .before .before .before .before .before .before .before .before .before .before .loop .inv .runs
-          .room .within,
-      c .before .before .before .before .before .before .before .before .before .before .before .loop-test .taken,
+      c .before .before .before .before .before .before .before .before .before .before .before .loop .inv .runs .room .within,
+      c .before .before .before .before .before .before .before .before .before .before .loop-test .taken,
     )
 
 loop-again-2 : tie.Need-loop-again-2 Inv-loop μ-loop
 loop-again-2 c =
     let s = c .before .before .before .before .before .before in
     let l = s .before .before .before .before in
-    let P = l .before .before .loop .inv in
-    parted-turn P (l .before .loop-test .taken) (l .line .ensures)
-    (here-zero P _ (s .before .before .before .step-thread .ensures) (s .before .before .if1 .taken) refl (s .step .ensures) (c .before .before .before .before .enum-told .given .1)) refl (c .before .before .put2 .ensures)
+    let P = l .before .loop .inv in
+    parted-turn P (l .loop-test .taken) refl
+    (here-zero P _ (s .before .before .before .step-thread .ensures) (s .before .before .if1 .taken) refl (s .step .ensures)
+    (c .before .before .before .before .enum-told .given .1)) refl (past P _ (s .before .before .before .step-thread .ensures)
+    (s .before .before .if1 .taken)) (c .before .before .put2 .ensures)
 
 enum-known-running-2 : tie.Need-enum-known-running-2 Inv-loop μ-loop
 enum-known-running-2 c = c .match .keys3
@@ -129,47 +125,47 @@ slot-requires : tie.Need-slot-requires Inv-loop μ-loop
 slot-requires c κs =
     let s = c .before .before .before in
     let l = s .before .before .before .before in
-    let P = l .before .before .loop .inv in
-    bounded P _ (s .before .before .before .step-thread .ensures) (s .before .before .if1 .taken) refl (s .step .ensures) (c .before
-    .running2 .given .1) .0
+    let P = l .before .loop .inv in
+    bounded P _ (s .before .before .before .step-thread .ensures) (s .before .before .if1 .taken) refl (s .step .ensures)
+    (c .before .running2 .given .1) .0
 
 mul-cells : tie.Need-mul-cells Inv-loop μ-loop
 mul-cells c =
     let s = c .before .before .before .before in
     let l = s .before .before .before .before in
-    let P = l .before .before .loop .inv in
+    let P = l .before .loop .inv in
     omega (
       arith,
-      slot-low P _ (s .before .before .before .step-thread .ensures) (s .before .before .if1 .taken) refl (s .step
-          .ensures) (c .before .before .running2 .given .1) (c .slot .ensures),
+      slot-low P _ (s .before .before .before .step-thread .ensures) (s .before .before .if1 .taken) refl (s .step .ensures)
+          (c .before .before .running2 .given .1) (c .slot .ensures),
     )
 
 array-copy-out-cells : tie.Need-array-copy-out-cells Inv-loop μ-loop
 array-copy-out-cells c =
     let s = c .before .before .before .before in
     let l = s .before .before .before .before in
-    let P = l .before .before .loop .inv in
-    slot-low P _ (s .before .before .before .step-thread .ensures) (s .before .before .if1 .taken) refl (s .step .ensures) (c
-    .before .before .running2 .given .1) (c .slot .ensures)
+    let P = l .before .loop .inv in
+    slot-low P _ (s .before .before .before .step-thread .ensures) (s .before .before .if1 .taken) refl (s .step .ensures)
+    (c .before .before .running2 .given .1) (c .slot .ensures)
 
 mul-cells-2 : tie.Need-mul-cells-2 Inv-loop μ-loop
 mul-cells-2 c =
     let s = c .before .before .before .before .before in
     let l = s .before .before .before .before in
-    let P = l .before .before .loop .inv in
+    let P = l .before .loop .inv in
     omega (
       arith,
-      slot-low P _ (s .before .before .before .step-thread .ensures) (s .before .before .if1 .taken) refl (s .step
-          .ensures) (c .before .before .before .running2 .given .1) (c .before .slot .ensures),
+      slot-low P _ (s .before .before .before .step-thread .ensures) (s .before .before .if1 .taken) refl (s .step .ensures)
+          (c .before .before .before .running2 .given .1) (c .before .slot .ensures),
     )
 
 array-read-cells : tie.Need-array-read-cells Inv-loop μ-loop
 array-read-cells c =
     let s = c .before .before .before .before .before in
     let l = s .before .before .before .before in
-    let P = l .before .before .loop .inv in
-    slot-low P _ (s .before .before .before .step-thread .ensures) (s .before .before .if1 .taken) refl (s .step .ensures) (c
-    .before .before .before .running2 .given .1) (c .before .slot .ensures)
+    let P = l .before .loop .inv in
+    slot-low P _ (s .before .before .before .step-thread .ensures) (s .before .before .if1 .taken) refl (s .step .ensures)
+    (c .before .before .before .running2 .given .1) (c .before .slot .ensures)
 
 cells-requires : tie.Need-cells-requires Inv-loop μ-loop
 cells-requires c κs = search needs
@@ -178,14 +174,13 @@ step-requires-2 : tie.Need-step-requires-2 Inv-loop μ-loop
 step-requires-2 c κs =
     let s = c .before .before .before .before .before .before in
     let l = s .before .before .before .before in
-    let P = l .before .before .loop .inv in (
-      bounded P _ (s .before .before .before .step-thread .ensures) (s .before .before .if1 .taken) refl (s .step .ensures) (c
-          .before .before .before .before .running2 .given .1) .0,
-      loaded-small P _ (s .before .before .before .step-thread .ensures) (s
-          .before .before .if1 .taken) refl (s .step .ensures) (c .before .before .before .before .running2 .given .1) (c .before .before
-          .slot .ensures) (c .cells .ensures),
-      bounded P _ (s .before .before .before .step-thread .ensures) (s .before .before .if1
-          .taken) refl (s .step .ensures) (c .before .before .before .before .running2 .given .1) .2,
+    let P = l .before .loop .inv in (
+      bounded P _ (s .before .before .before .step-thread .ensures) (s .before .before .if1 .taken) refl (s .step .ensures)
+          (c .before .before .before .before .running2 .given .1) .0,
+      loaded-small P _ (s .before .before .before .step-thread .ensures) (s .before .before .if1 .taken) refl (s .step .ensures)
+          (c .before .before .before .before .running2 .given .1) (c .before .before .slot .ensures) (c .cells .ensures),
+      bounded P _ (s .before .before .before .step-thread .ensures) (s .before .before .if1 .taken) refl (s .step .ensures)
+          (c .before .before .before .before .running2 .given .1) .2,
     )
 
 slot-requires-2 : tie.Need-slot-requires-2 Inv-loop μ-loop
@@ -195,44 +190,46 @@ mul-cells-3 : tie.Need-mul-cells-3 Inv-loop μ-loop
 mul-cells-3 c =
     let s = c .before .before .before .before .before .before .before .before in
     let l = s .before .before .before .before in
-    let P = l .before .before .loop .inv in
+    let P = l .before .loop .inv in
     omega (
       arith,
-      written-low P _ (s .before .before .before .step-thread .ensures) (s .before .before .if1 .taken) refl (s .step
-          .ensures) (c .before .before .before .before .before .before .running2 .given .1) (c .before .before .before .before .slot
-          .ensures) (c .before .before .cells .ensures) (c .before .step2 .ensures) (c .slot2 .ensures),
+      written-low P _ (s .before .before .before .step-thread .ensures) (s .before .before .if1 .taken) refl (s .step .ensures)
+          (c .before .before .before .before .before .before .running2 .given .1)
+          (c .before .before .before .before .slot .ensures) (c .before .before .cells .ensures) (c .before .step2 .ensures)
+          (c .slot2 .ensures),
     )
 
 array-copy-out-cells-2 : tie.Need-array-copy-out-cells-2 Inv-loop μ-loop
 array-copy-out-cells-2 c =
     let s = c .before .before .before .before .before .before .before .before in
     let l = s .before .before .before .before in
-    let P = l .before .before .loop .inv in
-    written-low P _ (s .before .before .before .step-thread .ensures) (s .before .before .if1 .taken) refl (s .step .ensures) (c
-    .before .before .before .before .before .before .running2 .given .1) (c .before .before .before .before .slot .ensures) (c
-    .before .before .cells .ensures) (c .before .step2 .ensures) (c .slot2 .ensures)
+    let P = l .before .loop .inv in
+    written-low P _ (s .before .before .before .step-thread .ensures) (s .before .before .if1 .taken) refl (s .step .ensures)
+    (c .before .before .before .before .before .before .running2 .given .1) (c .before .before .before .before .slot .ensures)
+    (c .before .before .cells .ensures) (c .before .step2 .ensures) (c .slot2 .ensures)
 
 mul-cells-4 : tie.Need-mul-cells-4 Inv-loop μ-loop
 mul-cells-4 c =
     let s = c .before .before .before .before .before .before .before .before .before in
     let l = s .before .before .before .before in
-    let P = l .before .before .loop .inv in
+    let P = l .before .loop .inv in
     omega (
       arith,
-      written-low P _ (s .before .before .before .step-thread .ensures) (s .before .before .if1 .taken) refl (s .step
-          .ensures) (c .before .before .before .before .before .before .before .running2 .given .1) (c .before .before .before .before
-          .before .slot .ensures) (c .before .before .before .cells .ensures) (c .before .before .step2 .ensures) (c .before .slot2
-          .ensures),
+      written-low P _ (s .before .before .before .step-thread .ensures) (s .before .before .if1 .taken) refl (s .step .ensures)
+          (c .before .before .before .before .before .before .before .running2 .given .1)
+          (c .before .before .before .before .before .slot .ensures) (c .before .before .before .cells .ensures)
+          (c .before .before .step2 .ensures) (c .before .slot2 .ensures),
     )
 
 array-read-cells-2 : tie.Need-array-read-cells-2 Inv-loop μ-loop
 array-read-cells-2 c =
     let s = c .before .before .before .before .before .before .before .before .before in
     let l = s .before .before .before .before in
-    let P = l .before .before .loop .inv in
-    written-low P _ (s .before .before .before .step-thread .ensures) (s .before .before .if1 .taken) refl (s .step .ensures) (c
-    .before .before .before .before .before .before .before .running2 .given .1) (c .before .before .before .before .before .slot
-    .ensures) (c .before .before .before .cells .ensures) (c .before .before .step2 .ensures) (c .before .slot2 .ensures)
+    let P = l .before .loop .inv in
+    written-low P _ (s .before .before .before .step-thread .ensures) (s .before .before .if1 .taken) refl (s .step .ensures)
+    (c .before .before .before .before .before .before .before .running2 .given .1)
+    (c .before .before .before .before .before .slot .ensures) (c .before .before .before .cells .ensures)
+    (c .before .before .step2 .ensures) (c .before .slot2 .ensures)
 
 cells-requires-2 : tie.Need-cells-requires-2 Inv-loop μ-loop
 cells-requires-2 c κs = search needs
@@ -244,49 +241,51 @@ mul-stamps : tie.Need-mul-stamps Inv-loop μ-loop
 mul-stamps c =
     let s = c .before .before .before .before .before .before .before .before .before .before .before .before in
     let l = s .before .before .before .before in
-    let P = l .before .before .loop .inv in
+    let P = l .before .loop .inv in
     omega (
       arith,
-      written-low P _ (s .before .before .before .step-thread .ensures) (s .before .before .if1 .taken) refl (s .step
-          .ensures) (c .before .before .before .before .before .before .before .before .before .before .running2 .given .1) (c .before
-          .before .before .before .before .before .before .before .slot .ensures) (c .before .before .before .before .before .before
-          .cells .ensures) (c .before .before .before .before .before .step2 .ensures) (c .before .before .before .before .slot2
-          .ensures),
+      written-low P _ (s .before .before .before .step-thread .ensures) (s .before .before .if1 .taken) refl (s .step .ensures)
+          (c .before .before .before .before .before .before .before .before .before .before .running2 .given .1)
+          (c .before .before .before .before .before .before .before .before .slot .ensures)
+          (c .before .before .before .before .before .before .cells .ensures)
+          (c .before .before .before .before .before .step2 .ensures) (c .before .before .before .before .slot2 .ensures),
     )
 
 array-set-from-stamps : tie.Need-array-set-from-stamps Inv-loop μ-loop
 array-set-from-stamps c =
     let s = c .before .before .before .before .before .before .before .before .before .before .before .before in
     let l = s .before .before .before .before in
-    let P = l .before .before .loop .inv in
-    written-low P _ (s .before .before .before .step-thread .ensures) (s .before .before .if1 .taken) refl (s .step .ensures) (c
-    .before .before .before .before .before .before .before .before .before .before .running2 .given .1) (c .before .before .before
-    .before .before .before .before .before .slot .ensures) (c .before .before .before .before .before .before .cells .ensures) (c
-    .before .before .before .before .before .step2 .ensures) (c .before .before .before .before .slot2 .ensures)
+    let P = l .before .loop .inv in
+    written-low P _ (s .before .before .before .step-thread .ensures) (s .before .before .if1 .taken) refl (s .step .ensures)
+    (c .before .before .before .before .before .before .before .before .before .before .running2 .given .1)
+    (c .before .before .before .before .before .before .before .before .slot .ensures)
+    (c .before .before .before .before .before .before .cells .ensures)
+    (c .before .before .before .before .before .step2 .ensures) (c .before .before .before .before .slot2 .ensures)
 
 mul-messages : tie.Need-mul-messages Inv-loop μ-loop
 mul-messages c =
     let s = c .before .before .before .before .before .before .before .before .before .before .before .before in
     let l = s .before .before .before .before in
-    let P = l .before .before .loop .inv in
+    let P = l .before .loop .inv in
     omega (
       arith,
-      written-low P _ (s .before .before .before .step-thread .ensures) (s .before .before .if1 .taken) refl (s .step
-          .ensures) (c .before .before .before .before .before .before .before .before .before .before .running2 .given .1) (c .before
-          .before .before .before .before .before .before .before .slot .ensures) (c .before .before .before .before .before .before
-          .cells .ensures) (c .before .before .before .before .before .step2 .ensures) (c .before .before .before .before .slot2
-          .ensures),
+      written-low P _ (s .before .before .before .step-thread .ensures) (s .before .before .if1 .taken) refl (s .step .ensures)
+          (c .before .before .before .before .before .before .before .before .before .before .running2 .given .1)
+          (c .before .before .before .before .before .before .before .before .slot .ensures)
+          (c .before .before .before .before .before .before .cells .ensures)
+          (c .before .before .before .before .before .step2 .ensures) (c .before .before .before .before .slot2 .ensures),
     )
 
 array-write-messages : tie.Need-array-write-messages Inv-loop μ-loop
 array-write-messages c =
     let s = c .before .before .before .before .before .before .before .before .before .before .before .before in
     let l = s .before .before .before .before in
-    let P = l .before .before .loop .inv in
-    written-low P _ (s .before .before .before .step-thread .ensures) (s .before .before .if1 .taken) refl (s .step .ensures) (c
-    .before .before .before .before .before .before .before .before .before .before .running2 .given .1) (c .before .before .before
-    .before .before .before .before .before .slot .ensures) (c .before .before .before .before .before .before .cells .ensures) (c
-    .before .before .before .before .before .step2 .ensures) (c .before .before .before .before .slot2 .ensures)
+    let P = l .before .loop .inv in
+    written-low P _ (s .before .before .before .step-thread .ensures) (s .before .before .if1 .taken) refl (s .step .ensures)
+    (c .before .before .before .before .before .before .before .before .before .before .running2 .given .1)
+    (c .before .before .before .before .before .before .before .before .slot .ensures)
+    (c .before .before .before .before .before .before .cells .ensures)
+    (c .before .before .before .before .before .step2 .ensures) (c .before .before .before .before .slot2 .ensures)
 
 place-after-array-requires : tie.Need-place-after-array-requires Inv-loop μ-loop
 place-after-array-requires c κs = search needs
@@ -295,71 +294,80 @@ mul-threads : tie.Need-mul-threads Inv-loop μ-loop
 mul-threads c =
     omega (
       arith,
-      few _ (formed (c .before .before .before .before .before .before .before .before .before .before .before .before
-          .before .before .before .before .before .before .before .before .before .loop .inv)),
-      c .before .before .before .before .before
-          .before .before .before .before .before .before .before .before .before .before .before .before .if1 .taken,
+      count-low _ (formed
+          (c .before .before .before .before .before .before .before .before .before .before .before .before .before .before .before .before .before .before .before .before .loop .inv)),
+      c .before .before .before .before .before .before .before .before .before .before .before .before .before .before .before .before .before .if1 .taken,
     )
 
 array-set-from-threads : tie.Need-array-set-from-threads Inv-loop μ-loop
 array-set-from-threads c =
     omega (
       arith,
-      few _ (formed (c .before .before .before .before .before .before .before .before .before .before .before .before
-          .before .before .before .before .before .before .before .before .before .loop .inv)),
-      c .before .before .before .before .before
-          .before .before .before .before .before .before .before .before .before .before .before .before .if1 .taken,
+      count-low _ (formed
+          (c .before .before .before .before .before .before .before .before .before .before .before .before .before .before .before .before .before .before .before .before .loop .inv)),
+      c .before .before .before .before .before .before .before .before .before .before .before .before .before .before .before .before .before .if1 .taken,
     )
 
 one-more-requires : tie.Need-one-more-requires Inv-loop μ-loop
 one-more-requires c κs =
     let s = c .before .before .before .before .before .before .before .before .before .before .before .before .before .before .before in
     let l = s .before .before .before .before in
-    let P = l .before .before .loop .inv in
-    may-step P _ (s .before .before .before .step-thread .ensures) (s .before .before .if1 .taken) refl (s .step .ensures) (c
-    .before .before .before .before .before .before .before .before .before .before .before .before .before .running2 .given .1)
+    let P = l .before .loop .inv in
+    may-step P _ (s .before .before .before .step-thread .ensures) (s .before .before .if1 .taken) refl (s .step .ensures)
+    (c .before .before .before .before .before .before .before .before .before .before .before .before .before .running2 .given .1)
 
 put-code-requires : tie.Need-put-code-requires Inv-loop μ-loop
 put-code-requires c κs =
     let s = c .before .before .before .before .before .before .before .before .before .before .before .before .before .before .before .before .before in
     let l = s .before .before .before .before in
-    let P = l .before .before .loop .inv in
-    parted-fits P (l .before .loop-test .taken) (l .line .ensures) (here-made P _ (s .before .before .before .step-thread .ensures)
-    (s .before .before .if1 .taken) refl (s .step .ensures) (c .before .before .before .before .before .before .before .before
-    .before .before .before .before .before .before .before .running2 .given .1) (c .before .before .before .before .before .before
-    .before .before .before .before .before .before .before .slot .ensures) (c .before .before .before .before .before .before
-    .before .before .before .before .before .cells .ensures) (c .before .before .before .before .before .before .before .before
-    .before .before .step2 .ensures) (c .before .before .before .before .before .before .before .before .before .slot2 .ensures) (c
-    .before .before .before .before .before .before .before .cells2 .ensures) (c .before .before .before .before .before .before
-    .cells-after .ensures) (c .before .before .place-after-array .ensures) (c .before .one-more .ensures))
+    let P = l .before .loop .inv in
+    parted-fits P (l .loop-test .taken) refl (here-made P _ (s .before .before .before .step-thread .ensures)
+    (s .before .before .if1 .taken) refl (s .step .ensures)
+    (c .before .before .before .before .before .before .before .before .before .before .before .before .before .before .before .running2 .given .1)
+    (c .before .before .before .before .before .before .before .before .before .before .before .before .before .slot .ensures)
+    (c .before .before .before .before .before .before .before .before .before .before .before .cells .ensures)
+    (c .before .before .before .before .before .before .before .before .before .before .step2 .ensures)
+    (c .before .before .before .before .before .before .before .before .before .slot2 .ensures)
+    (c .before .before .before .before .before .before .before .cells2 .ensures)
+    (c .before .before .before .before .before .before .cells-after .ensures) (c .before .before .place-after-array .ensures)
+    (c .before .one-more .ensures))
 
 loop-less-3 : tie.Need-loop-less-3 Inv-loop μ-loop
 loop-less-3 c =
     omega (
       arith,
-      c .before .before .before .before .before .before .before .before .before .before .before .before .before .before
-          .before .before .before .before .before .before .before .before .before .before .before .before .loop .inv .runs .room .within,
-      c .before .before .before .before .before .before .before .before .before .before .before .before .before .before .before
-          .before .before .before .before .before .before .before .before .before .before .loop-test .taken,
+      c .before .before .before .before .before .before .before .before .before .before .before .before .before .before .before .before .before .before .before .before .before .before .before .before .before .loop .inv .runs .room .within,
+      c .before .before .before .before .before .before .before .before .before .before .before .before .before .before .before .before .before .before .before .before .before .before .before .before .loop-test .taken,
     )
 
 loop-again-3 : tie.Need-loop-again-3 Inv-loop μ-loop
 loop-again-3 c =
     let s = c .before .before .before .before .before .before .before .before .before .before .before .before .before .before .before .before .before .before .before .before in
     let l = s .before .before .before .before in
-    let P = l .before .before .loop .inv in
-    parted-turn P (l .before .loop-test .taken) (l .line .ensures) (here-made P _ (s .before .before .before .step-thread .ensures)
-    (s .before .before .if1 .taken) refl (s .step .ensures) (c .before .before .before .before .before .before .before .before
-    .before .before .before .before .before .before .before .before .before .before .running2 .given .1) (c .before .before .before
-    .before .before .before .before .before .before .before .before .before .before .before .before .before .slot .ensures) (c
-    .before .before .before .before .before .before .before .before .before .before .before .before .before .before .cells .ensures)
-    (c .before .before .before .before .before .before .before .before .before .before .before .before .before .step2 .ensures) (c
-    .before .before .before .before .before .before .before .before .before .before .before .before .slot2 .ensures) (c .before
-    .before .before .before .before .before .before .before .before .before .cells2 .ensures) (c .before .before .before .before
-    .before .before .before .before .before .cells-after .ensures) (c .before .before .before .before .before .place-after-array
-    .ensures) (c .before .before .before .before .one-more .ensures)) (length-set (l .before .before .loop .stamps) (c .before
-    .before .before .before .before .before .before .before .before .before .before .before .slot2 .result) (c .before .before
-    .before .before .before .before .before .before .before .cells-after .result .stamp)) (c .before .before .put-code .ensures)
+    let P = l .before .loop .inv in
+    parted-turn P (l .loop-test .taken) refl (here-made P _ (s .before .before .before .step-thread .ensures)
+    (s .before .before .if1 .taken) refl (s .step .ensures)
+    (c .before .before .before .before .before .before .before .before .before .before .before .before .before .before .before .before .before .before .running2 .given .1)
+    (c .before .before .before .before .before .before .before .before .before .before .before .before .before .before .before .before .slot .ensures)
+    (c .before .before .before .before .before .before .before .before .before .before .before .before .before .before .cells .ensures)
+    (c .before .before .before .before .before .before .before .before .before .before .before .before .before .step2 .ensures)
+    (c .before .before .before .before .before .before .before .before .before .before .before .before .slot2 .ensures)
+    (c .before .before .before .before .before .before .before .before .before .before .cells2 .ensures)
+    (c .before .before .before .before .before .before .before .before .before .cells-after .ensures)
+    (c .before .before .before .before .before .place-after-array .ensures)
+    (c .before .before .before .before .one-more .ensures)) (length-set (l .before .loop .stamps)
+    (c .before .before .before .before .before .before .before .before .before .before .before .before .slot2 .result)
+    (c .before .before .before .before .before .before .before .before .before .cells-after .result .stamp)) (past P _
+    (s .before .before .before .step-thread .ensures) (s .before .before .if1 .taken)) (c .before .before .put-code .ensures)
+
+line-requires : tie.Need-line-requires Inv-loop μ-loop
+line-requires c κs = omega (arith, c .before .before .loop-test .taken)
+
+add-at-2 : tie.Need-add-at-2 Inv-loop μ-loop
+add-at-2 c = omega (arith, line-within _ _ _ (c .before .before .before .loop-test .taken) (c .line .ensures))
+
+add-at-3 : tie.Need-add-at-3 Inv-loop μ-loop
+add-at-3 c = omega (arith, line-within _ _ _ (c .before .before .before .loop-test .taken) (c .line .ensures))
 
 parse-requires : tie.Need-parse-requires Inv-loop μ-loop
 parse-requires c κs = search needs
@@ -387,32 +395,30 @@ array-set-from-threads-2 c =
 
 put-requires-3 : tie.Need-put-requires-3 Inv-loop μ-loop
 put-requires-3 c κs =
-    let s = c .before .before .before .before .before .before .before in
-    let l = s .before in
-    let P = l .before .before .loop .inv in
-    parted-fits P (l .before .loop-test .taken) (l .line .ensures) (here-left _ (formed P) _ _ (s .step-thread .ensures) (c .before
-    .before .before .before .before .before .if1 .left) _ (c .before .before .before .before .before .parse .ensures) _ (c .before
-    .before .before .before .named .ensures) _ refl _ (c .before .before .answered .ensures))
+    let s = c .before .before .before .before .before .before in
+    let P = s .before .before .before .before .loop .inv in
+    parted-fits P (s .before .before .before .loop-test .taken) (s .line .ensures) (here-left _ (formed P) _ _ (told
+    (s .before .before .step-thread .ensures) (s .line .ensures)) (s .before .if1 .left) _
+    (c .before .before .before .before .before .parse .ensures) _ (c .before .before .before .before .named .ensures) _ refl _
+    (c .before .before .answered .ensures))
 
 loop-less-4 : tie.Need-loop-less-4 Inv-loop μ-loop
 loop-less-4 c =
     omega (
       arith,
-      c .before .before .before .before .before .before .before .before .before .before .before .before .before .loop
-          .inv .runs .room .within,
-      c .before .before .before .before .before .before .before .before .before .before .before .before
-          .loop-test .taken,
+      c .before .before .before .before .before .before .before .before .before .before .before .before .before .loop .inv .runs .room .within,
+      c .before .before .before .before .before .before .before .before .before .before .before .before .loop-test .taken,
     )
 
 loop-again-4 : tie.Need-loop-again-4 Inv-loop μ-loop
 loop-again-4 c =
-    let s = c .before .before .before .before .before .before .before .before .before .before in
-    let l = s .before in
-    let P = l .before .before .loop .inv in
-    parted-turn P (l .before .loop-test .taken) (l .line .ensures) (here-left _ (formed P) _ _ (s .step-thread .ensures) (c .before
-    .before .before .before .before .before .before .before .before .if1 .left) _ (c .before .before .before .before .before .before
-    .before .before .parse .ensures) _ (c .before .before .before .before .before .before .before .named .ensures) _ refl _ (c
-    .before .before .before .before .before .answered .ensures)) refl (c .before .before .put3 .ensures)
+    let s = c .before .before .before .before .before .before .before .before .before in
+    let P = s .before .before .before .before .loop .inv in
+    parted-turn P (s .before .before .before .loop-test .taken) (s .line .ensures) (here-left _ (formed P) _ _ (told
+    (s .before .before .step-thread .ensures) (s .line .ensures)) (s .before .if1 .left) _
+    (c .before .before .before .before .before .before .before .before .parse .ensures) _
+    (c .before .before .before .before .before .before .before .named .ensures) _ refl _
+    (c .before .before .before .before .before .answered .ensures)) refl refl (c .before .before .put3 .ensures)
 
 same-length : tie.Need-same-length Inv-loop μ-loop
 same-length c = c .before .loop .inv .runs .size
@@ -430,10 +436,8 @@ replay-spec =
     new-requires-2
     new-requires-3
     loop-holds
-    line-requires
-    add-at
-    add-at-2
     step-thread-requires
+    add-at
     cast-t
     mul-thread
     array-copy-out-thread
@@ -472,6 +476,9 @@ replay-spec =
     put-code-requires
     loop-less-3
     loop-again-3
+    line-requires
+    add-at-2
+    add-at-3
     parse-requires
     named-requires
     mul-thread-2

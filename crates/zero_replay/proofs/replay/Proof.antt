@@ -6,7 +6,8 @@ use lib.ListN.{length}
 use borrow.Author.Needs.{needs}
 use Rattle.served.proofs.RunLaws.{running-all, line-within}
 use Rattle.frames.proofs.LeftLaws.{named-below}
-use Rattle.zero_replay.proofs.LoopLaws.{Parted, parted-none, fits, turn, there, here-refused, here-array, allowed, bounded, loaded, reaches, written, here-quiet, here-made, here-kept, here-left}
+use Rattle.frames.proofs.LoopLaws.{told}
+use Rattle.zero_replay.proofs.LoopLaws.{Parted, parted-none, fits, turn, past, there, here-refused, here-array, allowed, bounded, loaded, reaches, written, here-quiet, here-made, here-kept, here-left}
 use Rattle.zero_replay.proofs.replay.Statement.{statement}
 use Rattle.zero_replay.proofs.replay.Tie as tie
 
@@ -33,26 +34,20 @@ loop-holds c =
     parted-none _ _ _ _ _ (s .pre .1) (s .pre .0) (c .before .before .unmarked .ensures) (c .before .new .ensures)
     (c .new2 .ensures)
 
-line-requires : tie.Need-line-requires Inv-loop μ-loop
-line-requires c κs = omega (arith, c .loop-test .taken)
+step-thread-requires : tie.Need-step-thread-requires Inv-loop μ-loop
+step-thread-requires c κs = omega (arith, c .loop-test .taken)
 
 add-at : tie.Need-add-at Inv-loop μ-loop
-add-at c = omega (arith, line-within _ _ _ (c .before .loop-test .taken) (c .line .ensures))
-
-add-at-2 : tie.Need-add-at-2 Inv-loop μ-loop
-add-at-2 c = omega (arith, line-within _ _ _ (c .before .loop-test .taken) (c .line .ensures))
-
-step-thread-requires : tie.Need-step-thread-requires Inv-loop μ-loop
-step-thread-requires c κs = search needs
+add-at c = omega (arith, c .before .before .loop-test .taken)
 
 cast-t : tie.Need-cast-t Inv-loop μ-loop
 cast-t c = search needs
 
 mul-thread : tie.Need-mul-thread Inv-loop μ-loop
-mul-thread c = omega (arith, there (c .before .before .before .before .loop .inv) (c .if1 .taken))
+mul-thread c = omega (arith, there (c .before .before .before .loop .inv) (c .if1 .taken))
 
 array-copy-out-thread : tie.Need-array-copy-out-thread Inv-loop μ-loop
-array-copy-out-thread c = there (c .before .before .before .before .loop .inv) (c .if1 .taken)
+array-copy-out-thread c = there (c .before .before .before .loop .inv) (c .if1 .taken)
 
 step-requires : tie.Need-step-requires Inv-loop μ-loop
 step-requires c κs = search needs
@@ -63,8 +58,8 @@ enum-known-running c = c .match .keys1
 put-requires : tie.Need-put-requires Inv-loop μ-loop
 put-requires c κs =
     let s = c .before .before .before .before .before .before in
-    let P = s .before .before .before .before .loop .inv in
-    fits P (s .before .before .before .loop-test .taken) (s .before .before .line .ensures)
+    let P = s .before .before .before .loop .inv in
+    fits P (s .before .before .loop-test .taken) refl
     (here-refused P (s .if1 .taken) (c .before .before .before .before .step .ensures) _ (s .before .step-thread .ensures)
     (c .before .before .running .given .1))
 
@@ -72,15 +67,16 @@ loop-less : tie.Need-loop-less Inv-loop μ-loop
 loop-less c =
     let s = c .before .before .before .before .before .before .before .before .before in
     omega
-    (arith, s .before .before .before .before .loop .inv .runs .room .within, s .before .before .before .loop-test .taken)
+    (arith, s .before .before .before .loop .inv .runs .room .within, s .before .before .loop-test .taken)
 
 loop-again : tie.Need-loop-again Inv-loop μ-loop
 loop-again c =
     let s = c .before .before .before .before .before .before .before .before .before in
-    let P = s .before .before .before .before .loop .inv in
-    turn P (s .before .before .before .loop-test .taken) (s .before .before .line .ensures)
+    let P = s .before .before .before .loop .inv in
+    turn P (s .before .before .loop-test .taken) refl
     (here-refused P (s .if1 .taken) (c .before .before .before .before .before .before .before .step .ensures) _
     (s .before .step-thread .ensures) (c .before .before .before .before .before .running .given .1))
+    (past P (s .if1 .taken) _ (s .before .step-thread .ensures))
     (c .before .before .put .ensures)
 
 enum-told : tie.Need-enum-told Inv-loop μ-loop
@@ -89,23 +85,24 @@ enum-told c = c .match .keys2
 put-requires-2 : tie.Need-put-requires-2 Inv-loop μ-loop
 put-requires-2 c κs =
     let s = c .before .before .before .before .before in
-    let P = s .before .before .before .before .loop .inv in
-    fits P (s .before .before .before .loop-test .taken) (s .before .before .line .ensures)
+    let P = s .before .before .before .loop .inv in
+    fits P (s .before .before .loop-test .taken) refl
     (here-array P (s .if1 .taken) (c .before .before .before .step .ensures) _ (c .before .enum-told .given .1))
 
 loop-less-2 : tie.Need-loop-less-2 Inv-loop μ-loop
 loop-less-2 c =
     let s = c .before .before .before .before .before .before .before .before in
     omega
-    (arith, s .before .before .before .before .loop .inv .runs .room .within, s .before .before .before .loop-test .taken)
+    (arith, s .before .before .before .loop .inv .runs .room .within, s .before .before .loop-test .taken)
 
 loop-again-2 : tie.Need-loop-again-2 Inv-loop μ-loop
 loop-again-2 c =
     let s = c .before .before .before .before .before .before .before .before in
-    let P = s .before .before .before .before .loop .inv in
-    turn P (s .before .before .before .loop-test .taken) (s .before .before .line .ensures)
+    let P = s .before .before .before .loop .inv in
+    turn P (s .before .before .loop-test .taken) refl
     (here-array P (s .if1 .taken) (c .before .before .before .before .before .before .step .ensures) _
     (c .before .before .before .before .enum-told .given .1))
+    (past P (s .if1 .taken) _ (s .before .step-thread .ensures))
     (c .before .before .put2 .ensures)
 
 enum-known-running-2 : tie.Need-enum-known-running-2 Inv-loop μ-loop
@@ -114,7 +111,7 @@ enum-known-running-2 c = c .match .keys3
 found-requires : tie.Need-found-requires Inv-loop μ-loop
 found-requires c κs =
     let s = c .before .before .before .before .before in
-    bounded (s .before .before .before .before .loop .inv) (s .if1 .taken) (c .before .before .before .step .ensures)
+    bounded (s .before .before .before .loop .inv) (s .if1 .taken) (c .before .before .before .step .ensures)
     (c .before .running2 .given .1) .room
 
 packet-for-requires : tie.Need-packet-for-requires Inv-loop μ-loop
@@ -129,7 +126,7 @@ mul-packet c =
     let s = z .before .before .before .before .before in
     omega (
       arith,
-      loaded (s .before .before .before .before .loop .inv) (s .if1 .taken)
+      loaded (s .before .before .before .loop .inv) (s .if1 .taken)
           (z .before .before .before .step .ensures) (z .before .running2 .given .1) (c .before .before .found .ensures)
           (c .before .packet-for .ensures),
     )
@@ -138,14 +135,14 @@ array-copy-out-packet : tie.Need-array-copy-out-packet Inv-loop μ-loop
 array-copy-out-packet c =
     let z = c .before .before .before in
     let s = z .before .before .before .before .before in
-    loaded (s .before .before .before .before .loop .inv) (s .if1 .taken) (z .before .before .before .step .ensures)
+    loaded (s .before .before .before .loop .inv) (s .if1 .taken) (z .before .before .before .step .ensures)
     (z .before .running2 .given .1) (c .before .before .found .ensures) (c .before .packet-for .ensures)
 
 element-copy-out-context : tie.Need-element-copy-out-context Inv-loop μ-loop
 element-copy-out-context c =
     let z = c .before .before .before .before in
     let s = z .before .before .before .before .before in
-    there (s .before .before .before .before .loop .inv) (s .if1 .taken)
+    there (s .before .before .before .loop .inv) (s .if1 .taken)
 
 step-requires-2 : tie.Need-step-requires-2 Inv-loop μ-loop
 step-requires-2 c κs = search needs
@@ -158,21 +155,21 @@ mul-threads c =
     let o = c .before in
     let z = o .before .before .before .before .before .before .before in
     let s = z .before .before .before .before .before in
-    omega (arith, there (s .before .before .before .before .loop .inv) (s .if1 .taken))
+    omega (arith, there (s .before .before .before .loop .inv) (s .if1 .taken))
 
 array-set-from-threads : tie.Need-array-set-from-threads Inv-loop μ-loop
 array-set-from-threads c =
     let o = c .before in
     let z = o .before .before .before .before .before .before .before in
     let s = z .before .before .before .before .before in
-    there (s .before .before .before .before .loop .inv) (s .if1 .taken)
+    there (s .before .before .before .loop .inv) (s .if1 .taken)
 
 one-more-requires : tie.Need-one-more-requires Inv-loop μ-loop
 one-more-requires c κs =
     let o = c .before in
     let z = o .before .before .before .before .before .before .before in
     let s = z .before .before .before .before .before in
-    allowed (s .before .before .before .before .loop .inv) (s .if1 .taken) (z .before .before .before .step .ensures)
+    allowed (s .before .before .before .loop .inv) (s .if1 .taken) (z .before .before .before .step .ensures)
     (z .before .running2 .given .1)
 
 put-code-requires : tie.Need-put-code-requires Inv-loop μ-loop
@@ -181,8 +178,8 @@ put-code-requires c κs =
     let o = m .before .before in
     let z = o .before .before .before .before .before .before .before in
     let s = z .before .before .before .before .before in
-    let P = s .before .before .before .before .loop .inv in
-    fits P (s .before .before .before .loop-test .taken) (s .before .before .line .ensures)
+    let P = s .before .before .before .loop .inv in
+    fits P (s .before .before .loop-test .taken) refl
     (here-made P (s .if1 .taken) (z .before .before .before .step .ensures) (z .before .running2 .given .1)
     (o .before .before .before .before .before .before .found .ensures)
     (o .before .before .before .before .before .packet-for .ensures) (o .step2 .ensures) refl refl refl
@@ -205,7 +202,7 @@ mul-packet-after c =
     let s = z .before .before .before .before .before in
     omega (
       arith,
-      written (s .before .before .before .before .loop .inv) (s .if1 .taken)
+      written (s .before .before .before .loop .inv) (s .if1 .taken)
           (z .before .before .before .step .ensures) (z .before .running2 .given .1)
           (o .before .before .before .before .before .before .found .ensures)
           (o .before .before .before .before .before .packet-for .ensures) (o .step2 .ensures)
@@ -218,7 +215,7 @@ array-copy-out-packet-after c =
     let o = m .before .before in
     let z = o .before .before .before .before .before .before .before in
     let s = z .before .before .before .before .before in
-    written (s .before .before .before .before .loop .inv) (s .if1 .taken) (z .before .before .before .step .ensures)
+    written (s .before .before .before .loop .inv) (s .if1 .taken) (z .before .before .before .step .ensures)
     (z .before .running2 .given .1) (o .before .before .before .before .before .before .found .ensures)
     (o .before .before .before .before .before .packet-for .ensures) (o .step2 .ensures) (c .before .written-packet .ensures)
 
@@ -233,7 +230,7 @@ mul-packets c =
     let s = z .before .before .before .before .before in
     omega (
       arith,
-      written (s .before .before .before .before .loop .inv) (s .if1 .taken)
+      written (s .before .before .before .loop .inv) (s .if1 .taken)
           (z .before .before .before .step .ensures) (z .before .running2 .given .1)
           (o .before .before .before .before .before .before .found .ensures)
           (o .before .before .before .before .before .packet-for .ensures) (o .step2 .ensures)
@@ -246,7 +243,7 @@ array-set-from-packets c =
     let o = m .before .before in
     let z = o .before .before .before .before .before .before .before in
     let s = z .before .before .before .before .before in
-    written (s .before .before .before .before .loop .inv) (s .if1 .taken) (z .before .before .before .step .ensures)
+    written (s .before .before .before .loop .inv) (s .if1 .taken) (z .before .before .before .step .ensures)
     (z .before .running2 .given .1) (o .before .before .before .before .before .before .found .ensures)
     (o .before .before .before .before .before .packet-for .ensures) (o .step2 .ensures)
     (c .before .before .before .written-packet .ensures)
@@ -263,7 +260,7 @@ wakers-after-requires c κs =
     let o = m .before .before in
     let z = o .before .before .before .before .before .before .before in
     let s = z .before .before .before .before .before in
-    reaches (s .before .before .before .before .loop .inv) (s .if1 .taken) (z .before .before .before .step .ensures)
+    reaches (s .before .before .before .loop .inv) (s .if1 .taken) (z .before .before .before .step .ensures)
     (z .before .running2 .given .1) (o .before .before .before .before .before .before .found .ensures)
     (o .before .before .before .before .before .packet-for .ensures) (o .step2 .ensures)
 
@@ -274,7 +271,7 @@ loop-less-3 c =
     let z = o .before .before .before .before .before .before .before in
     let s = z .before .before .before .before .before in
     omega
-    (arith, s .before .before .before .before .loop .inv .runs .room .within, s .before .before .before .loop-test .taken)
+    (arith, s .before .before .before .loop .inv .runs .room .within, s .before .before .loop-test .taken)
 
 loop-again-3 : tie.Need-loop-again-3 Inv-loop μ-loop
 loop-again-3 c =
@@ -282,8 +279,8 @@ loop-again-3 c =
     let o = m .before .before in
     let z = o .before .before .before .before .before .before .before in
     let s = z .before .before .before .before .before in
-    let P = s .before .before .before .before .loop .inv in
-    turn P (s .before .before .before .loop-test .taken) (s .before .before .line .ensures)
+    let P = s .before .before .before .loop .inv in
+    turn P (s .before .before .loop-test .taken) refl
     (here-made P (s .if1 .taken) (z .before .before .before .step .ensures) (z .before .running2 .given .1)
     (o .before .before .before .before .before .before .found .ensures)
     (o .before .before .before .before .before .packet-for .ensures) (o .step2 .ensures)
@@ -291,6 +288,7 @@ loop-again-3 c =
     (c .before .before .before .before .packet-after .ensures) (c .before .before .before .flag-after .ensures)
     (m .before .place-after-zero .ensures) (m .one-more .ensures) _ (s .before .step-thread .ensures)
     (c .wakers-after .ensures))
+    (past P (s .if1 .taken) _ (s .before .step-thread .ensures))
     (c .before .before .before .before .before .before .before .before .before .before .before .before .put-code .ensures)
 
 loop-less-4 : tie.Need-loop-less-4 Inv-loop μ-loop
@@ -300,7 +298,7 @@ loop-less-4 c =
     let z = o .before .before .before .before .before .before .before in
     let s = z .before .before .before .before .before in
     omega
-    (arith, s .before .before .before .before .loop .inv .runs .room .within, s .before .before .before .loop-test .taken)
+    (arith, s .before .before .before .loop .inv .runs .room .within, s .before .before .loop-test .taken)
 
 loop-again-4 : tie.Need-loop-again-4 Inv-loop μ-loop
 loop-again-4 c =
@@ -308,8 +306,8 @@ loop-again-4 c =
     let o = m .before .before in
     let z = o .before .before .before .before .before .before .before in
     let s = z .before .before .before .before .before in
-    let P = s .before .before .before .before .loop .inv in
-    turn P (s .before .before .before .loop-test .taken) (s .before .before .line .ensures)
+    let P = s .before .before .before .loop .inv in
+    turn P (s .before .before .loop-test .taken) refl
     (here-kept P (s .if1 .taken) (z .before .before .before .step .ensures) (z .before .running2 .given .1)
     (o .before .before .before .before .before .before .found .ensures)
     (o .before .before .before .before .before .packet-for .ensures) (o .step2 .ensures)
@@ -317,6 +315,7 @@ loop-again-4 c =
     (c .before .before .before .packet-after .ensures) (c .before .before .flag-after .ensures)
     (m .before .place-after-zero .ensures) (m .one-more .ensures) _ (s .before .step-thread .ensures)
     (c .before .turns-words .ensures) (c .if3 .left))
+    (past P (s .if1 .taken) _ (s .before .step-thread .ensures))
     (c .before .before .before .before .before .before .before .before .before .before .before .put-code .ensures)
 
 loop-less-5 : tie.Need-loop-less-5 Inv-loop μ-loop
@@ -326,7 +325,7 @@ loop-less-5 c =
     let z = o .before .before .before .before .before .before .before in
     let s = z .before .before .before .before .before in
     omega
-    (arith, s .before .before .before .before .loop .inv .runs .room .within, s .before .before .before .loop-test .taken)
+    (arith, s .before .before .before .loop .inv .runs .room .within, s .before .before .loop-test .taken)
 
 loop-again-5 : tie.Need-loop-again-5 Inv-loop μ-loop
 loop-again-5 c =
@@ -334,13 +333,23 @@ loop-again-5 c =
     let o = m .before .before in
     let z = o .before .before .before .before .before .before .before in
     let s = z .before .before .before .before .before in
-    let P = s .before .before .before .before .loop .inv in
-    turn P (s .before .before .before .loop-test .taken) (s .before .before .line .ensures)
+    let P = s .before .before .before .loop .inv in
+    turn P (s .before .before .loop-test .taken) refl
     (here-quiet P (s .if1 .taken) (z .before .before .before .step .ensures) (z .before .running2 .given .1)
     (o .before .before .before .before .before .before .found .ensures)
     (o .before .before .before .before .before .packet-for .ensures) (o .step2 .ensures) (c .before .writes .ensures)
     (c .if2 .left) (m .before .place-after-zero .ensures) (m .one-more .ensures) _ (s .before .step-thread .ensures))
+    (past P (s .if1 .taken) _ (s .before .step-thread .ensures))
     (c .before .before .before .before .put-code .ensures)
+
+line-requires : tie.Need-line-requires Inv-loop μ-loop
+line-requires c κs = omega (arith, c .before .before .loop-test .taken)
+
+add-at-2 : tie.Need-add-at-2 Inv-loop μ-loop
+add-at-2 c = omega (arith, line-within _ _ _ (c .before .before .before .loop-test .taken) (c .line .ensures))
+
+add-at-3 : tie.Need-add-at-3 Inv-loop μ-loop
+add-at-3 c = omega (arith, line-within _ _ _ (c .before .before .before .loop-test .taken) (c .line .ensures))
 
 parse-requires : tie.Need-parse-requires Inv-loop μ-loop
 parse-requires c κs = search needs
@@ -367,8 +376,8 @@ put-requires-3 : tie.Need-put-requires-3 Inv-loop μ-loop
 put-requires-3 c κs =
     let s = c .before .before .before .before .before .before in
     let P = s .before .before .before .before .loop .inv in
-    fits P (s .before .before .before .loop-test .taken) (s .before .before .line .ensures)
-    (here-left P _ (s .before .step-thread .ensures) (s .if1 .left)
+    fits P (s .before .before .before .loop-test .taken) (s .line .ensures)
+    (here-left P _ (told (s .before .before .step-thread .ensures) (s .line .ensures)) (s .before .if1 .left)
     (c .before .before .before .before .before .parse .ensures) (c .before .before .before .before .named .ensures)
     (c .before .before .answered .ensures))
 
@@ -382,11 +391,12 @@ loop-again-6 : tie.Need-loop-again-6 Inv-loop μ-loop
 loop-again-6 c =
     let s = c .before .before .before .before .before .before .before .before .before in
     let P = s .before .before .before .before .loop .inv in
-    turn P (s .before .before .before .loop-test .taken) (s .before .before .line .ensures)
-    (here-left P _ (s .before .step-thread .ensures) (s .if1 .left)
+    turn P (s .before .before .before .loop-test .taken) (s .line .ensures)
+    (here-left P _ (told (s .before .before .step-thread .ensures) (s .line .ensures)) (s .before .if1 .left)
     (c .before .before .before .before .before .before .before .before .parse .ensures)
     (c .before .before .before .before .before .before .before .named .ensures)
     (c .before .before .before .before .before .answered .ensures))
+    refl
     (c .before .before .put3 .ensures)
 
 same-length : tie.Need-same-length Inv-loop μ-loop
@@ -405,10 +415,8 @@ replay-spec =
     new-requires
     new-requires-2
     loop-holds
-    line-requires
-    add-at
-    add-at-2
     step-thread-requires
+    add-at
     cast-t
     mul-thread
     array-copy-out-thread
@@ -451,6 +459,9 @@ replay-spec =
     loop-again-4
     loop-less-5
     loop-again-5
+    line-requires
+    add-at-2
+    add-at-3
     parse-requires
     named-requires
     mul-thread-2

@@ -2,7 +2,7 @@
 use channel::position::Position;
 
 /// `try_send`, 01's A to F.
-#[derive(Drop)]
+#[derive(Clone, Copy)]
 pub enum SendPlace {
     LoadTail { message: u32 },
     LoadStamp { message: u32, tail: Position },
@@ -13,7 +13,7 @@ pub enum SendPlace {
 }
 
 /// `try_recv`, 01's A to F.
-#[derive(Drop)]
+#[derive(Clone, Copy)]
 pub enum ReceivePlace {
     LoadHead,
     LoadStamp { head: Position },
@@ -24,7 +24,7 @@ pub enum ReceivePlace {
 }
 
 /// `len`.
-#[derive(Drop)]
+#[derive(Clone, Copy)]
 pub enum LenPlace {
     LoadTail,
     LoadHead { tail: Position },
@@ -32,21 +32,21 @@ pub enum LenPlace {
 }
 
 /// `is_empty`.
-#[derive(Drop)]
+#[derive(Clone, Copy)]
 pub enum IsEmptyPlace {
     LoadHead,
     LoadTail { head: Position },
 }
 
 /// `is_full`.
-#[derive(Drop)]
+#[derive(Clone, Copy)]
 pub enum IsFullPlace {
     LoadTail,
     LoadHead { tail: Position },
 }
 
 /// A running call.
-#[derive(Drop)]
+#[derive(Clone, Copy)]
 pub enum ArrayCall {
     Send(SendPlace),
     Receive(ReceivePlace),

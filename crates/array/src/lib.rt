@@ -1,4 +1,6 @@
 //! The array channel of `array.rs`, one shared access a step: its slots beside its head and tail, by value.
+#![tactic(auto, unfolding(waker::specs::Choice::choice))]
+
 ghost use Rattle.std.specs.Prelude.{◌≡◌, ◌<◌, ◌≤◌};
 ghost use Rattle.channel.specs.Position.{slots};
 ghost use Rattle.array.specs.Array.{fresh_array, send_slot, receive_slot, slot_of, cells_at, call_step, applied, array_step};
@@ -17,7 +19,7 @@ pub mod send;
 pub mod weak;
 
 /// The channel's shared memory.
-#[derive(Drop)]
+#[derive(Clone, Copy)]
 pub struct Array {
     pub stamps: [Position; SLOTS],
     pub messages: [u32; SLOTS],
@@ -26,7 +28,7 @@ pub struct Array {
 }
 
 /// What a step may load: a place reads one of these. The slot is the one that the place names.
-#[derive(Drop)]
+#[derive(Clone, Copy)]
 pub struct Cells {
     pub head: Position,
     pub tail: Position,
@@ -35,7 +37,7 @@ pub struct Cells {
 }
 
 /// The array after a step, and where the call is.
-#[derive(Drop)]
+#[derive(Clone, Copy)]
 pub struct ArrayStepped {
     pub array: Array,
     pub next: ArrayNext,

@@ -7,7 +7,7 @@ use channel::answer::Answer;
 use channel::position::Position;
 
 /// A write to shared memory.
-#[derive(Drop)]
+#[derive(Clone, Copy)]
 pub enum ArrayEffect {
     Nothing,
     /// The n-th of these is the n-th send claim.
@@ -23,14 +23,14 @@ pub enum ArrayEffect {
 }
 
 /// Where a call is after a step.
-#[derive(Drop)]
+#[derive(Clone, Copy)]
 pub enum ArrayNext {
     Goes(ArrayCall),
     Ends(Answer),
 }
 
 /// What a step does.
-#[derive(Drop)]
+#[derive(Clone, Copy)]
 pub struct ArrayOutcome {
     pub next: ArrayNext,
     pub effect: ArrayEffect,

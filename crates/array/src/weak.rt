@@ -5,7 +5,7 @@ ghost use Rattle.array.specs.Weak.{send_fails, receive_fails, fails_to};
 use crate::call::{ArrayCall, ReceivePlace, SendPlace};
 
 /// Where a call goes when its weak exchange fails. At other places than C there is none to fail.
-#[derive(Drop)]
+#[derive(Clone, Copy)]
 pub enum Failure {
     None,
     Back(ArrayCall),

@@ -1,4 +1,6 @@
 //! The replay of an array's lines. Its loop keeps the record's parts apart, so that a frame changes a few words of them in place and copies no record.
+#![tactic(auto)]
+
 ghost use Rattle.std.specs.Prelude.{◌≡◌, drop};
 ghost use Rattle.text.specs.Lines.{lines_of};
 ghost use Rattle.text.specs.Output.{Put};

@@ -1,7 +1,7 @@
 //! The two channels.
 
 /// Which channel a record holds.
-#[derive(Drop)]
+#[derive(Clone, Copy)]
 pub enum Flavour {
     Zero,
     Array,

@@ -15,14 +15,14 @@ pub const STEP_LIMIT: u32 = 1_000_000;
 pub const CLOCK_LIMIT: u32 = 0xffff_fffe;
 
 /// Whether the bounds allow it.
-#[derive(Drop)]
+#[derive(Clone, Copy)]
 pub enum Verdict {
     Allowed,
     Refused(Refusal),
 }
 
 /// The clock after an advance, or its refusal.
-#[derive(Drop)]
+#[derive(Clone, Copy)]
 pub enum Clock {
     At(Tick),
     Refused(Refusal),

@@ -5,7 +5,7 @@ ghost use Rattle.bounds.specs.Refusal.{number_of};
 use channel::answer::Answer;
 
 /// Why a call is refused.
-#[derive(Drop)]
+#[derive(Clone, Copy)]
 pub enum Refusal {
     OutOfForm,
     Capacity,
@@ -24,7 +24,7 @@ pub enum Refusal {
 }
 
 /// What a public call replies: accepted, an accepted take's answer, or a refusal.
-#[derive(Drop)]
+#[derive(Clone, Copy)]
 pub enum Reply {
     Done,
     Took(Answer),

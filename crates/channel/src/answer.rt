@@ -3,11 +3,11 @@ ghost use Rattle.std.specs.Prelude.{◌≡◌};
 ghost use Rattle.channel.specs.Answer.{kind_of, value_of};
 
 /// A tick count of the clock.
-#[derive(Drop)]
+#[derive(Clone, Copy)]
 pub struct Tick(pub u32);
 
 /// The answer of a call that has ended, with what it carries.
-#[derive(Drop)]
+#[derive(Clone, Copy)]
 pub enum Answer {
     Sent,
     Received(u32),

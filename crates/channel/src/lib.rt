@@ -1,3 +1,5 @@
 //! What both channels' calls answer, and the array's position words.
+#![tactic(auto, unfolding(waker::specs::Choice::choice))]
+
 pub mod answer;
 pub mod position;

@@ -7,11 +7,11 @@ ghost use Rattle.channel.specs.PositionBounds.{Sized, Small, Inside};
 pub const SLOTS: usize = 64;
 
 /// A head, a tail or a stamp.
-#[derive(Drop)]
+#[derive(Clone, Copy)]
 pub struct Position(pub u64);
 
 /// What a capacity makes of position words: the mark bit, and one lap.
-#[derive(Drop)]
+#[derive(Clone, Copy)]
 pub struct Shape {
     pub capacity: u64,
     pub mark: u64,

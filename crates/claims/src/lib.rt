@@ -1,4 +1,6 @@
 //! Demand 2 over any schedule on an array: laws only, the promise of an empty function.
+#![tactic(auto, unfolding(waker::specs::Choice::choice))]
+
 ghost use Rattle.claims.specs.Statement.{ClaimLaw};
 
 /// Who gets whose message, what each call has claimed, and when Full, Empty, `len`, `is_empty` and `is_full` were true.

@@ -12,7 +12,7 @@ use zero::Packet;
 use zero::call::ZeroCall;
 
 /// The partner that a call names, and the side of that partner's call.
-#[derive(Drop)]
+#[derive(Clone, Copy)]
 pub enum Partner {
     None,
     Of { side: Side, thread: Thread },

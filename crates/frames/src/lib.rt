@@ -1,4 +1,6 @@
 //! What a frame that makes no step leaves: of the thread that it names, of the clock and of the steps made.
+#![tactic(auto, unfolding(waker::specs::Choice::choice))]
+
 ghost use Rattle.std.specs.Prelude.{◌≡◌, ◌<◌};
 ghost use Rattle.channel.specs.Answer.{ticks};
 ghost use Rattle.bounds.specs.Limits.{step_limit, one_more};
@@ -18,14 +20,14 @@ use turns::{Failing, Turn};
 use waker::context::{THREADS, Thread};
 
 /// The clock, and the steps made so far.
-#[derive(Drop)]
+#[derive(Clone, Copy)]
 pub struct Counts {
     pub clock: Tick,
     pub steps: u32,
 }
 
 /// What a frame leaves, and the reply to it.
-#[derive(Drop)]
+#[derive(Clone, Copy)]
 pub struct Left {
     pub place: Place,
     pub counts: Counts,

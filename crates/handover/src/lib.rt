@@ -1,4 +1,6 @@
 //! Demand 3, who meets whom on a rendezvous: laws only, the promise of an empty function.
+#![tactic(auto, unfolding(waker::specs::Choice::choice))]
+
 ghost use Rattle.handover.specs.Statement.{HandoverLaw, NoneFails};
 
 /// By which call a waiter is picked, how the two meet, and how a wait ends otherwise.

@@ -1,4 +1,6 @@
 //! Standard input, read to its end: a read that fails is told from the end.
+#![tactic(auto)]
+
 ghost use Rattle.std.specs.Prelude.{◌+◌, ◌≤◌, ◌<◌, min, ◌≡◌, length};
 ghost use Rattle.std.proofs.Math.Seq.{paste};
 ghost use Rattle.input.specs.Input.{fitting, Within};
@@ -6,7 +8,7 @@ ghost use Rattle.input.specs.Input.{fitting, Within};
 use libc::STDIN_FILENO;
 
 /// So many bytes, up to the end of the input or of the buffer; or a read failed.
-#[derive(Drop)]
+#[derive(Clone, Copy)]
 pub enum Input {
     Whole(usize),
     Failed,

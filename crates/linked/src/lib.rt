@@ -1,4 +1,6 @@
 //! The replay of a text, for a program in another language to link.
+#![tactic(auto)]
+
 ghost use Rattle.linked.specs.Linked.{Linked};
 
 use playback::run;

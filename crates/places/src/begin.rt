@@ -12,7 +12,7 @@ use zero::call::{Limit, Offer, Question, ZeroCall};
 pub const NO_DEADLINE: u32 = 0xffff_ffff;
 
 /// What a call code asks for.
-#[derive(Drop)]
+#[derive(Clone, Copy)]
 pub enum Code {
     Unknown,
     TrySend,
@@ -27,7 +27,7 @@ pub enum Code {
 }
 
 /// The first place of a call, or none where the channel has no such call.
-#[derive(Drop)]
+#[derive(Clone, Copy)]
 pub enum Start {
     None,
     At(Place),

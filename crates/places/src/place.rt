@@ -4,7 +4,7 @@ use channel::answer::Answer;
 use zero::call::ZeroCall;
 
 /// Where a thread stands: idle, in its call with what that call has saved, or with an answer not taken.
-#[derive(Drop)]
+#[derive(Clone, Copy)]
 pub enum Place {
     Idle,
     Array(ArrayCall),

@@ -19,14 +19,14 @@ use text::{frame, lines};
 pub const TEXT_LIMIT: usize = 60_000;
 
 /// What the buffer got: the whole output, so many bytes long, or nothing, since it is too short.
-#[derive(Drop)]
+#[derive(Clone, Copy)]
 pub enum Written {
     Whole(usize),
     Short,
 }
 
 /// What a line before a channel was made leads to: a refusal, or a channel.
-#[derive(Drop)]
+#[derive(Clone, Copy)]
 pub enum Heading {
     Refused(Refusal),
     Array { capacity: u64, count: u32 },

@@ -1,4 +1,6 @@
 //! A program: replays stored texts, one after the other. The output that it is held to is the release's (`oracle sample`).
+#![tactic(auto)]
+
 ghost use Rattle.std.specs.Prelude.{◌≤◌, length};
 
 use libc::{STDIN_FILENO, STDOUT_FILENO};

@@ -1,4 +1,6 @@
 //! A program: reads a schedule text from standard input, and writes its output.
+#![tactic(auto)]
+
 use input::Input;
 use libc::{STDERR_FILENO, STDOUT_FILENO};
 use playback::run;

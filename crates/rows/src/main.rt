@@ -1,4 +1,6 @@
 //! A program: runs the bench book's rows through the public calls, and says of each whether it shows what 01 writes.
+#![tactic(auto)]
+
 mod rows;
 mod run;
 

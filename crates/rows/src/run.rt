@@ -10,7 +10,7 @@ use waker::context::Thread;
 pub const NONE: u32 = 0xffff_ffff;
 
 /// The record, and whether all agreed so far.
-#[derive(Drop)]
+#[derive(Clone, Copy)]
 pub struct Run {
     pub channel: Record,
     pub agrees: bool,

@@ -1,4 +1,6 @@
 //! The record as numbers in a fixed order, and its line of text.
+#![tactic(auto, unfolding(waker::specs::Choice::choice))]
+
 pub mod fields;
 pub mod line;
 pub mod place;

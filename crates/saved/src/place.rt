@@ -8,7 +8,7 @@ use waker::wakers::Side;
 use zero::call::{Limit, Offer, Question, ZeroCall};
 
 /// A place's code, and up to two saved numbers.
-#[derive(Drop)]
+#[derive(Clone, Copy)]
 pub struct Numbers {
     pub code: u64,
     pub first: u64,

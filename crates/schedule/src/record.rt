@@ -19,13 +19,13 @@ use zero::outcome::ZeroNext;
 use zero::{Zero, ZeroStepped};
 
 /// A thread's record.
-#[derive(Drop)]
+#[derive(Clone, Copy)]
 pub struct ThreadRecord {
     pub place: Place,
 }
 
 /// The record: shared memory, the threads' own records, and the counts.
-#[derive(Drop)]
+#[derive(Clone, Copy)]
 pub struct Record {
     pub array: Array,
     pub zero: Zero,
@@ -38,7 +38,7 @@ pub struct Record {
 }
 
 /// The next record, and the reply.
-#[derive(Drop)]
+#[derive(Clone, Copy)]
 pub struct Replied {
     pub next: Record,
     pub reply: Reply,

@@ -7,14 +7,14 @@ use schedule::record::{Record, Replied};
 use text::frame::Frame;
 
 /// The record, and whether a header has made its channel.
-#[derive(Drop)]
+#[derive(Clone, Copy)]
 pub struct Held {
     pub channel: Record,
     pub made: bool,
 }
 
 /// The answer to a frame, and what is held then.
-#[derive(Drop)]
+#[derive(Clone, Copy)]
 pub struct Served {
     pub held: Held,
     pub reply: Reply,

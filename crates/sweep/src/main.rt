@@ -1,4 +1,6 @@
 //! A program: makes arrays of every capacity for every number of threads, one after the other, and shows the last. It is there to be counted.
+#![tactic(auto)]
+
 use libc::STDOUT_FILENO;
 use saved::line;
 use schedule::record::Record;

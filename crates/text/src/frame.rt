@@ -9,7 +9,7 @@ use channel::answer::Tick;
 use waker::context::Thread;
 
 /// What a line asks for. A malformed line asks for nothing.
-#[derive(Drop)]
+#[derive(Clone, Copy)]
 pub enum Frame {
     Header {
         capacity: u32,

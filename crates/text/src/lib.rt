@@ -1,4 +1,6 @@
 //! The schedule text: its lines, the frames that they spell, and the lines of the output.
+#![tactic(auto, unfolding(waker::specs::Choice::choice))]
+
 pub mod frame;
 pub mod hex;
 pub mod lines;

@@ -1,4 +1,6 @@
 //! A program: reads a schedule text from standard input, and writes each output line with the record after it.
+#![tactic(auto)]
+
 ghost use Rattle.std.specs.Prelude.{◌≤◌, length};
 ghost use Rattle.playback.specs.Trace.{shown_room};
 

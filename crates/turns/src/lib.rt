@@ -1,4 +1,6 @@
 //! What begin, step, fail and take make of a thread that is there, by where it stands.
+#![tactic(auto, unfolding(waker::specs::Choice::choice))]
+
 ghost use Rattle.std.specs.Prelude.{◌≡◌};
 ghost use Rattle.bounds.specs.Limits.{stepping};
 ghost use Rattle.turns.specs.Turn.{started_from, begun_from, limited, goes_on, fails_back, fails_from, taken_from};
@@ -13,14 +15,14 @@ use places::place::Place;
 use zero::call::ZeroCall;
 
 /// What begin or take makes of a thread: a refusal, or another place and the reply.
-#[derive(Drop)]
+#[derive(Clone, Copy)]
 pub enum Turn {
     Refused(Refusal),
     Stands { place: Place, reply: Reply },
 }
 
 /// The call that a step goes on with, or its refusal.
-#[derive(Drop)]
+#[derive(Clone, Copy)]
 pub enum Running {
     Refused(Refusal),
     Array(ArrayCall),
@@ -28,7 +30,7 @@ pub enum Running {
 }
 
 /// Where a failed exchange takes a call, or its refusal.
-#[derive(Drop)]
+#[derive(Clone, Copy)]
 pub enum Failing {
     Refused(Refusal),
     Back(ArrayCall),

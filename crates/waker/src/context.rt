@@ -6,11 +6,11 @@ ghost use Rattle.waker.specs.Context.{is_waiting, context, try_selected};
 pub const THREADS: usize = 8;
 
 /// The number of a thread.
-#[derive(Drop)]
+#[derive(Clone, Copy)]
 pub struct Thread(pub u32);
 
 /// The select word. The release's `Selected::Operation` is Picked.
-#[derive(Drop)]
+#[derive(Clone, Copy)]
 pub enum Selected {
     Waiting,
     Picked,
@@ -19,7 +19,7 @@ pub enum Selected {
 }
 
 /// What other threads see of a thread's wait.
-#[derive(Drop)]
+#[derive(Clone, Copy)]
 pub struct Context {
     pub select: Selected,
 }

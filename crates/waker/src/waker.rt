@@ -6,14 +6,14 @@ ghost use Rattle.waker.specs.Waker.{entries, queue_of, without, may_pick, oldest
 use crate::context::{Context, THREADS, Thread};
 
 /// The threads that wait on one side.
-#[derive(Drop)]
+#[derive(Clone, Copy)]
 pub struct Waker {
     pub selectors: [Thread; THREADS],
     pub len: usize,
 }
 
 /// What a walk of a queue finds.
-#[derive(Drop)]
+#[derive(Clone, Copy)]
 pub enum Found {
     Nobody,
     At(Thread),

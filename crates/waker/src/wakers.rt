@@ -8,14 +8,14 @@ use crate::context::{Context, Selected, THREADS, Thread};
 use crate::waker::{Found, Waker};
 
 /// The two sides of a channel.
-#[derive(Drop)]
+#[derive(Clone, Copy)]
 pub enum Side {
     Sender,
     Receiver,
 }
 
 /// Both queues and all words, in one value.
-#[derive(Drop)]
+#[derive(Clone, Copy)]
 pub struct Wakers {
     pub contexts: [Context; THREADS],
     pub senders: Waker,
@@ -23,7 +23,7 @@ pub struct Wakers {
 }
 
 /// Whom `try_select` found, and the queues and words after it.
-#[derive(Drop)]
+#[derive(Clone, Copy)]
 pub struct Selection {
     pub found: Found,
     pub wakers: Wakers,

@@ -7,21 +7,21 @@ use waker::context::Thread;
 use waker::wakers::Side;
 
 /// What a call brings to the meeting.
-#[derive(Drop)]
+#[derive(Clone, Copy)]
 pub enum Offer {
     Send(u32),
     Receive,
 }
 
 /// What a call does that finds nobody: `try_send` and `try_recv` end, `send` and `recv` wait until a deadline.
-#[derive(Drop)]
+#[derive(Clone, Copy)]
 pub enum Limit {
     Try,
     Until(Tick),
 }
 
 /// The calls that take one step.
-#[derive(Drop)]
+#[derive(Clone, Copy)]
 pub enum Question {
     Len,
     IsEmpty,
@@ -31,7 +31,7 @@ pub enum Question {
 }
 
 /// A running call.
-#[derive(Drop)]
+#[derive(Clone, Copy)]
 pub enum ZeroCall {
     /// The first section: look for a partner, or wait for one.
     First { offer: Offer, limit: Limit },

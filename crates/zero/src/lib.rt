@@ -1,4 +1,6 @@
 //! The rendezvous channel of `zero.rs`, one locked section or access a step: both sides' queues and words, every thread's packet, and the disconnect flag, by value.
+#![tactic(auto, unfolding(waker::specs::Choice::choice))]
+
 ghost use Rattle.std.specs.Prelude.{◌≡◌, ◌<◌};
 ghost use Rattle.waker.specs.Context.{threads};
 ghost use Rattle.waker.specs.Waker.{Open};
@@ -19,14 +21,14 @@ pub mod meet;
 pub mod outcome;
 
 /// A waiter's slot for passing one message.
-#[derive(Drop)]
+#[derive(Clone, Copy)]
 pub struct Packet {
     pub message: u32,
     pub ready: bool,
 }
 
 /// The channel's shared memory.
-#[derive(Drop)]
+#[derive(Clone, Copy)]
 pub struct Zero {
     pub packets: [Packet; THREADS],
     pub wakers: Wakers,
@@ -34,7 +36,7 @@ pub struct Zero {
 }
 
 /// What a step may see: whom a walk of the opposite queue finds, the own word, the packet that the place names, flag and clock.
-#[derive(Drop)]
+#[derive(Clone, Copy)]
 pub struct Sight {
     pub found: Found,
     pub word: Selected,
@@ -44,7 +46,7 @@ pub struct Sight {
 }
 
 /// The rendezvous after a step, and where the call is.
-#[derive(Drop)]
+#[derive(Clone, Copy)]
 pub struct ZeroStepped {
     pub zero: Zero,
     pub next: ZeroNext,

@@ -8,7 +8,7 @@ use waker::context::Thread;
 use waker::wakers::Side;
 
 /// An effect on shared memory.
-#[derive(Drop)]
+#[derive(Clone, Copy)]
 pub enum ZeroEffect {
     Nothing,
     /// The partner becomes Picked and leaves its side's queue.
@@ -32,14 +32,14 @@ pub enum ZeroEffect {
 }
 
 /// Where a call is after a step.
-#[derive(Drop)]
+#[derive(Clone, Copy)]
 pub enum ZeroNext {
     Goes(ZeroCall),
     Ends(Answer),
 }
 
 /// What a step does.
-#[derive(Drop)]
+#[derive(Clone, Copy)]
 pub struct ZeroOutcome {
     pub next: ZeroNext,
     pub effect: ZeroEffect,

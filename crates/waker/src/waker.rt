@@ -20,6 +20,7 @@ pub enum Found {
 }
 
 /// May the caller pick this entry? Not its own, and none whose word has changed.
+#[tactic(auto, unfolding(crate::specs::Choice::choice, crate::specs::Waker::may_pick))]
 pub fn may_pick(caller: Thread, contexts: [Context; THREADS], entry: Thread) -> bool
     requires { entry.0 < threads }
     ensures { result ≡ may_pick caller contexts entry }
@@ -34,6 +35,7 @@ pub fn may_pick(caller: Thread, contexts: [Context; THREADS], entry: Thread) -> 
 
 impl Waker {
     /// Nobody waits.
+    #[tactic(auto, unfolding(crate::specs::Choice::choice, crate::specs::Waker::queue_of))]
     pub fn new() -> Waker
         ensures { result ≡ queue_of [] }
     {

@@ -49,6 +49,7 @@ impl Shape {
     }
 
     /// The next index, or index 0 of the next lap.
+    #[tactic(auto, unfolding(crate::specs::Position::successor, waker::specs::Choice::choice))]
     pub fn successor(self, word: Position) -> Position
         requires { Sized self × Small word }
         ensures { result ≡ successor self word }
@@ -69,6 +70,7 @@ impl Shape {
     }
 
     /// The word without its mark.
+    #[tactic(auto, unfolding(crate::specs::Position::unmarked, waker::specs::Choice::choice))]
     pub fn unmarked(self, word: Position) -> Position
         requires { Sized self }
         ensures { result ≡ unmarked self word }
@@ -81,6 +83,7 @@ impl Shape {
     }
 
     /// The number of messages between a head and a tail.
+    #[tactic(auto, unfolding(crate::specs::Position::length_of, waker::specs::Choice::choice))]
     pub fn length(self, tail: Position, head: Position) -> u32
         requires { Sized self × Inside self tail × Inside self head }
         ensures { result ≡ length_of self tail head }

@@ -1,5 +1,5 @@
 -- One step of a call on the array: what it may load, and what its effect makes of the shared memory.
-use Rattle.std.specs.Prelude.{ℕ, zero, suc, ◌+◌, ◌-◌, List, [], ◌∷◌, ◌++◌, get_or, set, replicate}
+use Rattle.std.specs.Prelude.{ℕ, zero, suc, ◌-◌, List, [], ◌∷◌, ◌++◌, get_or, set, replicate}
 use Rattle.channel.specs.Position.{slots, at, index_of}
 use Rattle.array.specs.ArraySteps.{send_step, receive_step, len_step, is_empty_step, is_full_step, is_disconnected_step, disconnect_step}
 use Rattle.channel.specs.declared.position.Position.{Position}

@@ -1,5 +1,5 @@
 -- 01's "Array steps": the local work of each place, on the one word that the place loads.
-use Rattle.std.specs.Prelude.{ℕ, ◌+◌, ◌-◌, Bool, eqb}
+use Rattle.std.specs.Prelude.{ℕ, ◌+◌, Bool, eqb}
 use Rattle.waker.specs.Choice.{when◌then◌else◌}
 use Rattle.channel.specs.Position.{at, index_of, successor, is_marked, unmarked, length_of}
 use Rattle.array.specs.ArrayOutcome.{writes, goes, ends}

@@ -125,6 +125,7 @@ impl ArrayCall {
 
 impl Array {
     /// A fresh array: slot i has stamp i.
+    #[tactic(auto, unfolding(crate::specs::Array::stamps_from, waker::specs::Choice::choice))]
     pub fn new(capacity: u64) -> Array
         requires { capacity ≤ slots }
         ensures { result ≡ fresh_array capacity }

@@ -1,0 +1,6 @@
+use Rattle.array.proofs.ArrayLaws.{effect_there}
+use Rattle.array.proofs.Array.step.Goals as goal
+
+pub apply-array-requires : goal.apply-array-requires
+apply-array-requires c =
+    rw c.step-outcome.ensures (effect_there _ _ c.requires.0 c.args.call c.requires.2).there

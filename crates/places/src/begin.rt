@@ -35,6 +35,7 @@ pub enum Start {
 
 impl Code {
     /// What a number asks for.
+    #[tactic(auto, unfolding(crate::specs::Begin::code_of, waker::specs::Choice::choice))]
     pub fn of(number: u32) -> Code
         ensures { result ≡ code_of number }
     {

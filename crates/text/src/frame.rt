@@ -43,6 +43,7 @@ pub const NO_THREAD: u32 = 256;
 pub const STEP_LENGTH: usize = 5;
 
 /// `cctt` after `00`: capacity and thread count.
+#[tactic(auto, unfolding(crate::specs::Frames::header_of, waker::specs::Choice::choice))]
 fn header(digits: &[u8]) -> Frame
     ensures { result ≡ header_of digits.now }
 {
@@ -59,6 +60,7 @@ fn header(digits: &[u8]) -> Frame
 }
 
 /// `ttoommmmmmmmdddddddd` after `01`: thread, call code, message and deadline.
+#[tactic(auto, unfolding(crate::specs::Frames::begin_of, waker::specs::Choice::choice))]
 fn begin(digits: &[u8]) -> Frame
     ensures { result ≡ begin_of digits.now }
 {
@@ -86,6 +88,7 @@ fn begin(digits: &[u8]) -> Frame
 }
 
 /// `tt`, and no more: a thread.
+#[tactic(auto, unfolding(crate::specs::Frames::thread_of, waker::specs::Choice::choice))]
 fn thread_number(digits: &[u8]) -> Number
     ensures { result ≡ thread_of digits.now }
 {
@@ -96,6 +99,7 @@ fn thread_number(digits: &[u8]) -> Number
 }
 
 /// `tt` after `02`: the thread that makes a step.
+#[tactic(auto, unfolding(crate::specs::Frames::step_of, waker::specs::Choice::choice))]
 fn step(digits: &[u8]) -> Frame
     ensures { result ≡ step_of digits.now }
 {
@@ -108,6 +112,7 @@ fn step(digits: &[u8]) -> Frame
 }
 
 /// `nnnnnnnn` after `03`: by how many ticks the clock advances.
+#[tactic(auto, unfolding(crate::specs::Frames::advance_of, waker::specs::Choice::choice))]
 fn advance(digits: &[u8]) -> Frame
     ensures { result ≡ advance_of digits.now }
 {
@@ -121,6 +126,7 @@ fn advance(digits: &[u8]) -> Frame
 }
 
 /// `tt` after `04`: the thread whose answer is taken.
+#[tactic(auto, unfolding(crate::specs::Frames::take_of, waker::specs::Choice::choice))]
 fn take(digits: &[u8]) -> Frame
     ensures { result ≡ take_of digits.now }
 {
@@ -133,6 +139,7 @@ fn take(digits: &[u8]) -> Frame
 }
 
 /// `tt` after `05`: the thread whose weak exchange fails.
+#[tactic(auto, unfolding(crate::specs::Frames::fail_of, waker::specs::Choice::choice))]
 fn fail(digits: &[u8]) -> Frame
     ensures { result ≡ fail_of digits.now }
 {
@@ -145,6 +152,7 @@ fn fail(digits: &[u8]) -> Frame
 }
 
 /// The frame that a line spells. Most lines are steps, so these are tested first.
+#[tactic(auto, unfolding(crate::specs::Frames::form_of, waker::specs::Choice::choice))]
 pub fn parse(line: &[u8]) -> Frame
     ensures { result ≡ parse_of line.now }
 {

@@ -10,6 +10,7 @@ pub enum Number {
 }
 
 /// What a digit stands for: `0` to `9` and `a` to `f` are digits, and no other byte is.
+#[tactic(auto, unfolding(crate::specs::Hex::digit_of, waker::specs::Choice::choice))]
 pub fn digit(b: u8) -> Number
     ensures { result ≡ digit_of b }
 {

@@ -4,6 +4,7 @@ ghost use Rattle.text.specs.Hex.{hex_digit, byte_text, word_text};
 ghost use Rattle.text.specs.Output.{end_text, code_line, took_line, Put};
 
 /// The digit of a number's last four bits.
+#[tactic(auto, unfolding(crate::specs::Hex::hex_digit, waker::specs::Choice::choice))]
 fn low_digit(value: u32) -> u8
     ensures { result ≡ hex_digit value }
 {

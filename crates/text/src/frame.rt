@@ -152,7 +152,7 @@ fn fail(digits: &[u8]) -> Frame
 }
 
 /// The frame that a line spells. Most lines are steps, so these are tested first.
-#[tactic(auto, unfolding(crate::specs::Frames::form_of, waker::specs::Choice::choice))]
+#[tactic(auto, using(crate::proofs::FrameLaws::parsed, crate::proofs::FrameLaws::parsed_other, crate::proofs::FrameLaws::parsed_short, crate::proofs::FrameLaws::form_none), unfolding(crate::specs::Frames::form_of, waker::specs::Choice::choice))]
 pub fn parse(line: &[u8]) -> Frame
     ensures { result ≡ parse_of line.now }
 {
@@ -186,6 +186,7 @@ pub fn parse(line: &[u8]) -> Frame
 }
 
 /// The thread whose step the first line of a text spells, or 256.
+#[tactic(auto, using(crate::proofs::StepLaws::told_short, crate::proofs::StepLaws::told_first, crate::proofs::StepLaws::told_second, crate::proofs::StepLaws::told_no_high, crate::proofs::StepLaws::told_no_low, crate::proofs::StepLaws::told_last, crate::proofs::StepLaws::told_ended, crate::proofs::StepLaws::told_longer), unfolding(waker::specs::Choice::choice))]
 fn first_step(text: &[u8]) -> u32
     ensures { result ≡ step_thread (parse_of (line_of text.now)) }
 {

@@ -1,4 +1,3 @@
-use Prim.Native.Nat.{◌-◌}
 use mathlib.Core.Path.{sym, ◌∙◌}
 use native.Mathlib.Omega.{arith}
 use Rattle.text.proofs.HexLaws.{hex_more, hex_none, hex_end, digit_only, room, grown}

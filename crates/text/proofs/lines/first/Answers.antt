@@ -1,4 +1,3 @@
-use Prim.Native.Nat.{◌-◌}
 use native.Mathlib.Omega.{arith}
 use Rattle.text.proofs.LineLaws.{passed_none, passed_more, passed_found, passed_all}
 use Rattle.text.proofs.lines.first.Goals as goal

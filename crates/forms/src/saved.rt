@@ -10,6 +10,7 @@ use channel::position::{Position, SLOTS, Shape};
 pub const WORD_LIMIT: u64 = 0x1_0000_0000_0000;
 
 /// The capacity is 1 to 64, and mark and lap fit it.
+#[tactic(auto, unfolding(crate::specs::FormSaved::shape_in_form, waker::specs::Choice::choice))]
 pub fn shape_in_form(shape: Shape) -> bool
     ensures { result ≡ shape_in_form shape }
 {
@@ -27,6 +28,7 @@ pub fn shape_in_form(shape: Shape) -> bool
 }
 
 /// A tail, which may carry the mark.
+#[tactic(auto, unfolding(crate::specs::FormSaved::tail_in_form, waker::specs::Choice::choice))]
 pub fn tail_in_form(shape: Shape, word: Position) -> bool
     requires { Sized shape }
     ensures { result ≡ tail_in_form shape word }
@@ -38,6 +40,7 @@ pub fn tail_in_form(shape: Shape, word: Position) -> bool
 }
 
 /// A head, or a tail that may not carry the mark.
+#[tactic(auto, unfolding(crate::specs::FormSaved::word_in_form, waker::specs::Choice::choice))]
 pub fn word_in_form(shape: Shape, word: Position) -> bool
     requires { Sized shape }
     ensures { result ≡ word_in_form shape word }
@@ -49,6 +52,7 @@ pub fn word_in_form(shape: Shape, word: Position) -> bool
 }
 
 /// A slot below the capacity has a stamp without the mark, and one past it is 0.
+#[tactic(auto, unfolding(crate::specs::FormSaved::slot_in_form, waker::specs::Choice::choice))]
 pub fn slot_in_form(shape: Shape, i: u64, stamp: Position, message: u32) -> bool
     requires { Measured shape }
     ensures { result ≡ slot_in_form shape i stamp message }

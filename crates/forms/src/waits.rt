@@ -159,6 +159,7 @@ pub fn queued_at(side: Side, place: Place) -> bool
 }
 
 /// How often a thread stands in a side's queue: once at wait or leave, unless it has been picked.
+#[tactic(auto, unfolding(crate::specs::FormWaits::stands_on, waker::specs::Choice::choice))]
 pub fn stands_on(side: Side, place: Place, word: Selected) -> usize
     ensures { result ≡ stands_on side place word }
 {
@@ -271,6 +272,7 @@ pub fn times_in(thread: u32, queue: Waker) -> usize
 }
 
 /// An entry is a thread, and whatever lies past the length is 0.
+#[tactic(auto, unfolding(crate::specs::FormWaits::entry_in_form, waker::specs::Choice::choice))]
 fn entry_in_form(i: usize, len: usize, entry: Thread) -> bool
     ensures { result ≡ entry_in_form i len entry }
 {

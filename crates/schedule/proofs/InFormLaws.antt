@@ -35,7 +35,6 @@ use Rattle.array.specs.declared.call.ArrayCall.TheVariants as call
 use Rattle.zero.specs.declared.call.ZeroCall.{ZeroCall}
 use Rattle.zero.specs.declared.call.ZeroCall.TheVariants.{First, Put, PutReady, Take, TakeReady, Wait, ReadyWait, Leave, Ask}
 use Rattle.bounds.specs.Limits.{bounds_hold}
-use Rattle.bounds.specs.Tests.{◌and◌}
 use Rattle.schedule.specs.Record.{place_of}
 use Rattle.forms.specs.FormSaved.{tail_in_form, word_in_form, slot_in_form, send_in_form, receive_in_form, len_in_form, saved_in_form}
 use Rattle.forms.specs.FormWaits.{is_picked, queued_at, stands_on, times_in, entry_in_form, queue_in_form}

@@ -1,6 +1,6 @@
 -- Every step of `len`, `is_empty`, `is_full`, `is_disconnected` and disconnect is good, and so every step is.
 use Prim.Native.Nat.{ℕ, ◌+◌}
-use mathlib.Core.Path.{◌≡◌, sym, ap, ◌∙◌}
+use mathlib.Core.Path.{◌≡◌, sym, ap, ◌∙◌, subst}
 use mathlib.Core.Logic.{◌⊎◌, inl, inr, ◌≢◌}
 use mathlib.Core.List.{◌∷◌}
 use native.Mathlib.Omega.{arith}
@@ -78,8 +78,9 @@ module _ (r : Record) (h : Past) (t : ℕ) (F : Fits r.shape) (C : CoreNow r h t
       either r h t (eqb s.tail.0 w.0)
       (λ e.
       let g : s.tail.0 ≡ w.0 = eqb-true _ _ e in
-      let b = a.between (tail_one S F a.tail (rw g at C.tail)) in
-      over r h t C _ (inr (rw (length_is S F w v a.n a.k a.tail a.head b.0 b.1) b.2), u))
+      let q = a.between (tail_one S F a.tail (rw g at C.tail)) in
+      let P : ℕ → Type 0 = λ m. Sometime (λ x. x ≡ m) b.counts in
+      over r h t C _ (inr (subst P (sym (length_is S F w v a.n a.k a.tail a.head q.0 q.1)) q.2), u))
       (λ e. to r h t C _ (k, (u, tt)))
 
   is_empty_good : b.code ≡ code.IsEmpty → (p : IsEmptyPlace) → Unclaimed b → IsEmptyKnows S s c b p →

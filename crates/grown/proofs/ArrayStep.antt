@@ -212,8 +212,8 @@ module _ (S : Shape) (F : Fits S) (B : ℕ) where
     pub step_good : (k : ArrayCall) → CallSaved S B k → Good (outcome_of S a k)
     step_good (Send p) h = send_good _ p h
     step_good (Receive p) h = receive_good _ p h
-    step_good (Len p) h = len_good _ p h
-    step_good (IsEmpty p) h = is_empty_good _ p
-    step_good (IsFull p) h = is_full_good _ p
+    step_good (Len p) h = len_good 0 p h
+    step_good (IsEmpty p) h = is_empty_good 0 p
+    step_good (IsFull p) h = is_full_good 0 p
     step_good IsDisconnected h = says_good _
     step_good Disconnect h = disconnect_good

@@ -76,10 +76,10 @@ module _ (z : Memory) (l : List ThreadRecord) (t : Thread) (H : Scene z l t) whe
               word = other_word z l t H _ Waiting (same_words z.wakers σ _);
               packet = packet_else z t no_packet;
               list = λ u τ n.
-                  at_queue z.wakers σ _ _ (λ τ q. times_in u (entries q) ≡ times_in u (queue z τ))
+                  at_queue z.wakers σ _ z.wakers.contexts (λ τ q. times_in u (entries q) ≡ times_in u (queue z τ))
                   (rw (entries_queue_of (without t (queue z σ))) (times_left_other t u (queue z σ) n)) refl τ;
               stands = λ τ.
-                  at_queue z.wakers σ _ _ (λ τ q. times_in t.0 (entries q) ≡ 0)
+                  at_queue z.wakers σ _ z.wakers.contexts (λ τ q. times_in t.0 (entries q) ≡ 0)
                   (rw (entries_queue_of (without t (queue z σ))) (times_left t (queue z σ)))
                   (absent z l t H (other_side σ) (rw e (other_side_lem σ))) τ
                   ∙ sym (stands_not τ (Done a) _ refl);
@@ -129,7 +129,7 @@ module _ (z : Memory) (l : List ThreadRecord) (t : Thread) (H : Scene z l t) whe
         sound = sound_packet _ t _ (sound_words z _ (word_count z l t H _ t _ refl) H.sound);
         orderly =
             leaves (applied z t (effect.Abort σ)) σ d e (rw w) (other_word z l t H _ _ refl) (packet_else z t _)
-            (same_list z.wakers _)
+            (same_list z.wakers z.wakers.contexts)
             (rw (my_word z l t H z.wakers.contexts (try_selected (word_of z.wakers t) Aborted) refl, w))
             (my_packet z l t H _);
       }

@@ -100,11 +100,11 @@ module _ (z : Memory) (l : List ThreadRecord) (t : Thread) (H : Scene z l t) whe
               word = other_word z l t H _ Waiting (same_words z.wakers σ _);
               packet = packet_else z t _;
               list = λ u τ n.
-                  at_queue z.wakers σ _ _ (λ τ q. times_in u (entries q) ≡ times_in u (queue z τ))
+                  at_queue z.wakers σ _ z.wakers.contexts (λ τ q. times_in u (entries q) ≡ times_in u (queue z τ))
                   (rw (entries_queue_of (queue z σ ++ (t ∷ []))) (times_joined_other t u (queue z σ) n)) refl τ;
               stands = λ τ.
                   rw now
-                  (at_queue z.wakers σ _ _ (λ τ q. times_in t.0 (entries q) ≡ stands_on τ (Zero (Wait σ d)) Waiting)
+                  (at_queue z.wakers σ _ z.wakers.contexts (λ τ q. times_in t.0 (entries q) ≡ stands_on τ (Zero (Wait σ d)) Waiting)
                   (rw (entries_queue_of (queue z σ ++ (t ∷ [])))
                   (omega (arith, times_joined t (queue z σ), none σ, stands_waiting σ d)))
                   (none (other_side σ) ∙ sym (stands_not (other_side σ) (Zero (Wait σ d)) Waiting (other_side_lem σ))) τ);
@@ -153,11 +153,11 @@ module _ (z : Memory) (l : List ThreadRecord) (t : Thread) (H : Scene z l t) whe
               packet = λ u. refl;
               gone =
                   ap (times_in v.0)
-                  (list_here z.wakers ρ q _ ∙ entries_queue_of (without v (queue z ρ)))
+                  (list_here z.wakers ρ q z.wakers.contexts ∙ entries_queue_of (without v (queue z ρ)))
                   ∙ times_left v (queue z ρ);
-              aside = list_aside z.wakers ρ q _;
+              aside = list_aside z.wakers ρ q z.wakers.contexts;
               list = λ u τ n.
-                  at_queue z.wakers ρ q _ (λ τ q. times_in u (entries q) ≡ times_in u (queue z τ))
+                  at_queue z.wakers ρ q z.wakers.contexts (λ τ q. times_in u (entries q) ≡ times_in u (queue z τ))
                   (rw (entries_queue_of (without v (queue z ρ))) (times_left_other v u (queue z ρ) n)) refl τ;
             });
       }

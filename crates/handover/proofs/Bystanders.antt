@@ -147,32 +147,32 @@ module _ (M : Moment Past) (t : Thread) (k : ZeroCall) (at : place_of M.now t.0 
         word = word_apart _ v _ s (same_words z.wakers σ _);
         packet = refl;
         flag = λ f. f;
-        ahead = fewer_on σ (without v (listed z.wakers σ)) _ (λ l. ahead_left v u _ s);
+        ahead = fewer_on σ (without v (listed z.wakers σ)) z.wakers.contexts (λ l. ahead_left v u _ s);
       }
   leaves (effect.Join o) s =
       record {
         word = word_apart _ t _ apart (same_words z.wakers (side_of o) _);
         packet = packet_else z t _ u apart;
         flag = λ f. f;
-        ahead = fewer_on (side_of o) (listed z.wakers (side_of o) ++ (t ∷ [])) _ (λ l. omega (arith, ahead_joined_other t u _ l));
+        ahead = fewer_on (side_of o) (listed z.wakers (side_of o) ++ (t ∷ [])) z.wakers.contexts (λ l. omega (arith, ahead_joined_other t u _ l));
       }
   leaves (effect.PutMessage v m) s = packet_only v _ s
   leaves (effect.TakeMessage v) s = packet_only v _ s
   leaves (effect.SetReady v) s = packet_only v _ s
   leaves (effect.Abort σ) s =
-      record { word = word_apart _ t _ apart refl; packet = packet_else z t _ u apart; flag = λ f. f; ahead = still _ }
+      record { word = word_apart _ t _ apart refl; packet = packet_else z t _ u apart; flag = λ f. f; ahead = still z.wakers.contexts }
   leaves (effect.GiveUp σ) s = packet_only t _ apart
   leaves (effect.Leave σ) s =
       record {
         word = word_apart _ t _ apart (same_words z.wakers σ _);
         packet = packet_else z t _ u apart;
         flag = λ f. f;
-        ahead = fewer_on σ (without t (listed z.wakers σ)) _ (λ l. ahead_left t u _ apart);
+        ahead = fewer_on σ (without t (listed z.wakers σ)) z.wakers.contexts (λ l. ahead_left t u _ apart);
       }
   leaves effect.Clear s =
-      record { word = word_apart _ t _ apart refl; packet = packet_else z t _ u apart; flag = λ f. f; ahead = still _ }
+      record { word = word_apart _ t _ apart refl; packet = packet_else z t _ u apart; flag = λ f. f; ahead = still z.wakers.contexts }
   leaves effect.Disconnect s =
-      record { word = turned s (turned_both z.wakers u); packet = refl; flag = λ f. refl; ahead = still _ }
+      record { word = turned s (turned_both z.wakers u); packet = refl; flag = λ f. refl; ahead = still z.wakers.contexts }
 
   -- So a thread that the outcome's effect spares stays as it is,
   module _ (o : ZeroOutcome) (spared : Spares k o.effect u) where

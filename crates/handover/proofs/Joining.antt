@@ -69,7 +69,7 @@ module _ (M : Moment Past) (I : Inv M) (t : Thread) (there : t.0 < M.now.count) 
               place = at_wait;
               word = my_word _ _ t (stage M I.kept t there) _ word.Waiting (same_words w σ (queue_of q));
             };
-        last = list_here w σ (queue_of q) _ ∙ entries_queue_of q;
+        last = list_here w σ (queue_of q) w.contexts ∙ entries_queue_of q;
         entries = updated_here M.past.entries t.0 _;
         unopposed = updated_here (opposed_after M.now M.past t.0 (First o (Until d))) t.0 0;
       }

@@ -142,7 +142,7 @@ module _ (M : Moment Past) (I : Inv M) (t : Thread) (there : t.0 < M.now.count) 
       suc (ahead_of u (queue_at N.now ρ)) ≤ ahead_of u queue
   less u n k w q =
       let e : queue_at N.now ρ ≡ without v queue =
-      list_here M.now.zero.wakers ρ (queue_of (without v queue)) _ ∙ entries_queue_of (without v queue) in
+      list_here M.now.zero.wakers ρ (queue_of (without v queue)) M.now.zero.wakers.contexts ∙ entries_queue_of (without v queue) in
       rw e (ahead_less v u queue k (oldest_least t M.now.zero.wakers.contexts u n w v queue f q) F.there)
 
   load : (u : ℕ) → u ≢ t.0 → u ≢ v.0 → Load M N (steps t) u

@@ -45,6 +45,7 @@ fn word_number(word: Selected) -> u64
 }
 
 /// A field of those that a record has once.
+#[tactic(auto, unfolding(crate::specs::Fields::head_field, waker::specs::Choice::choice))]
 fn head_field(given: Record, i: usize) -> u64
     ensures { result ≡ head_field given i }
 {
@@ -64,6 +65,7 @@ fn head_field(given: Record, i: usize) -> u64
 }
 
 /// A field of a thread's six.
+#[tactic(auto, unfolding(crate::specs::Fields::thread_field, waker::specs::Choice::choice))]
 fn thread_field(given: Record, thread: usize, i: usize) -> u64
     requires { thread < threads }
     ensures { result ≡ thread_field given thread i }
@@ -86,6 +88,7 @@ fn thread_field(given: Record, thread: usize, i: usize) -> u64
 }
 
 /// A field of a queue: its length, then its entries.
+#[tactic(auto, unfolding(crate::specs::Fields::queue_field, waker::specs::Choice::choice))]
 fn queue_field(queue: Waker, i: usize) -> u64
     requires { i < 9 }
     ensures { result ≡ queue_field queue i }
@@ -98,6 +101,7 @@ fn queue_field(queue: Waker, i: usize) -> u64
 }
 
 /// Field `i` of a record: its head, its threads, its queues, its slots.
+#[tactic(auto, unfolding(crate::specs::Fields::field_of, waker::specs::Choice::choice))]
 pub fn field(given: Record, i: usize) -> u64
     requires { i < field_count }
     ensures { result ≡ field_of given i }

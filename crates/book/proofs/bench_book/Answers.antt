@@ -1,0 +1,5 @@
+use Rattle.book.proofs.Rows.{rows}
+use Rattle.book.proofs.bench_book.Goals as goal
+
+pub returns : goal.returns
+returns c = rows

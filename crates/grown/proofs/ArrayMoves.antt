@@ -2,7 +2,6 @@
 use Prim.Native.Nat.{ℕ, ◌+◌, ◌*◌, ◌<◌}
 use mathlib.Core.Path.{◌≡◌, refl}
 use native.Mathlib.Omega.{arith}
-use Rattle.channel.specs.Position.{at}
 use Rattle.channel.specs.PositionBounds.{Fits}
 use Rattle.array.specs.ArrayOutcome.{goes}
 use Rattle.array.specs.Array.{outcome_of, applied}

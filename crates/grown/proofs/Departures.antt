@@ -14,7 +14,7 @@ use Rattle.waker.specs.declared.context.Selected.TheVariants.{Waiting, Picked, A
 use Rattle.waker.specs.declared.wakers.Side.{Side}
 use Rattle.waker.proofs.WakerLaws.{entries_queue_of}
 use Rattle.zero.specs.ZeroOutcome.{writes}
-use Rattle.zero.specs.Zero.{packet, no_packet, packet_at, kept_at_leave, applied}
+use Rattle.zero.specs.Zero.{no_packet, packet_at, kept_at_leave, applied}
 use Rattle.channel.specs.declared.answer.Tick.{Tick}
 use Rattle.channel.specs.declared.answer.Answer.{Answer}
 use Rattle.zero.specs.declared.Zero.{Zero as Memory}

@@ -7,7 +7,7 @@ use native.Mathlib.Omega.{arith}
 use lib.ListN.{length, length-append}
 use Rattle.waker.specs.Context.{threads, thread, word_in, try_selected}
 use Rattle.waker.specs.Waker.{entries, queue_of, without, oldest}
-use Rattle.waker.specs.Wakers.{other_side, word_of, with_queue, with_word_in, picked}
+use Rattle.waker.specs.Wakers.{other_side, word_of, with_queue, with_word_in}
 use Rattle.waker.specs.declared.context.Thread.{Thread}
 use Rattle.waker.specs.declared.context.Context.{Context}
 use Rattle.waker.specs.declared.context.Selected.{Selected}

@@ -14,7 +14,7 @@ use Rattle.waker.specs.declared.context.Thread.{Thread}
 use Rattle.waker.specs.declared.context.Context.{Context}
 use Rattle.waker.specs.declared.context.Selected.{Selected}
 use Rattle.waker.specs.declared.wakers.Side.{Side}
-use Rattle.zero.specs.Zero.{packet, packet_at, with_packet, applied}
+use Rattle.zero.specs.Zero.{packet_at, with_packet, applied}
 use Rattle.zero.specs.declared.Packet.{Packet}
 use Rattle.zero.specs.declared.Zero.{Zero as Memory}
 use Rattle.zero.specs.declared.outcome.ZeroOutcome.{ZeroOutcome}

@@ -7,7 +7,7 @@ use mathlib.Core.List.{List, [], ◌∷◌}
 use native.Mathlib.Omega.{arith}
 use native.Mathlib.Decide.{ℕ_discrete}
 use borrow.Author.Tests.{eq-eqb}
-use Rattle.waker.specs.Choice.{choice, when◌then◌else◌}
+use Rattle.waker.specs.Choice.{choice}
 use Rattle.waker.specs.Context.{thread, context, word_in, try_selected}
 use Rattle.waker.specs.Wakers.{listed, word_of, selected_in, turned_all, disconnected}
 use Rattle.waker.specs.declared.context.Thread.{Thread}

@@ -1,6 +1,6 @@
 -- The rows, by computing each history.
 use mathlib.Core.Path.{refl}
-use Rattle.waker.specs.Choice.{choice, when◌then◌else◌}
+use Rattle.waker.specs.Choice.{choice}
 use Rattle.waker.specs.Waker.{queue_of, without, may_pick, oldest}
 use Rattle.waker.specs.Wakers.{turned_all}
 use Rattle.channel.specs.Position.{doubled_to, mark_of, successor, unmarked}

@@ -67,6 +67,7 @@ fn kept(replied: Replied) -> Served
 
 impl Held {
     /// Before a channel was made.
+    #[tactic(auto, unfolding(schedule::specs::Making::made_zero, waker::specs::Choice::choice))]
     pub fn nothing() -> Held
         ensures { result ≡ nothing_made }
     {
@@ -89,6 +90,7 @@ impl Held {
     }
 
     /// Before a channel was made, only a header is heard.
+    #[tactic(auto, unfolding(crate::specs::Served::served_for, waker::specs::Choice::choice))]
     fn serve_unmade(self, frame: Frame) -> Served
         requires { self.made ≡ false }
         ensures { result ≡ served_for self frame }
@@ -105,6 +107,7 @@ impl Held {
     }
 
     /// On a channel that was made, a header is malformed; the form is not tested.
+    #[tactic(auto, unfolding(crate::specs::Served::served_for, schedule::specs::Calls::advanced, schedule::specs::Calls::begun, schedule::specs::Calls::failed, schedule::specs::Calls::stepped, schedule::specs::Calls::taken, waker::specs::Choice::choice))]
     fn serve_made(self, frame: Frame) -> Served
         requires { (self.made ≡ true) × Standing self }
         ensures { result ≡ served_for self frame }

@@ -1,0 +1,5 @@
+use Rattle.claims.proofs.Law.{claim_law}
+use Rattle.claims.proofs.claim_law.Goals as goal
+
+pub returns : goal.returns
+returns c = claim_law

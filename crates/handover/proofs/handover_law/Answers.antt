@@ -1,0 +1,7 @@
+use Rattle.handover.specs.Meetings.{moment_after}
+use Rattle.handover.proofs.Histories.{inv_after}
+use Rattle.handover.proofs.Law.{holds}
+use Rattle.handover.proofs.handover_law.Goals as goal
+
+pub returns : goal.returns
+returns c n r e l = holds (moment_after r l) (inv_after n r e l)

@@ -1,0 +1,5 @@
+use Rattle.handover.proofs.Exchanges.{none_fails}
+use Rattle.handover.proofs.none_fails.Goals as goal
+
+pub returns : goal.returns
+returns c = none_fails

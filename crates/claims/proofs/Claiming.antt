@@ -24,7 +24,7 @@ use Rattle.claims.specs.Statement.{Unclaimed}
 use Rattle.grown.proofs.Updates.{updated_here, updated_else}
 use Rattle.claims.proofs.Words.{slot_for, word, word_inj, word_next, word_odd, slot_lap}
 use Rattle.claims.proofs.Tails.{plain, tail_one}
-use Rattle.claims.proofs.Sides.{stamp_in, Side, sending, receiving, made, claims_of, ReadyFor}
+use Rattle.claims.proofs.Sides.{stamp_in, Side, sending, receiving, claims_of, ReadyFor}
 use Rattle.claims.proofs.Owners.{AtMostOne, HadOrNext}
 use Rattle.claims.proofs.Core.{Slot, open_for, holds, InOrder, here, is_open, is_held}
 use Rattle.claims.proofs.Knows.{Ready, Stored, Returns}

@@ -3,7 +3,7 @@ use Prim.Native.Nat.{ℕ}
 use mathlib.Core.Path.{◌≡◌, refl}
 use mathlib.Core.List.{List, [], ◌∷◌, ◌++◌}
 use lib.ListN.{replicate}
-use Rattle.waker.specs.Choice.{choice, when◌then◌else◌}
+use Rattle.waker.specs.Choice.{choice}
 use Rattle.waker.specs.Context.{thread}
 use Rattle.waker.specs.Waker.{queue_of}
 use Rattle.channel.specs.Answer.{ticks}

@@ -3,7 +3,7 @@ use Prim.Native.Nat.{ℕ, ◌+◌}
 use mathlib.Core.Path.{◌≡◌, sym, ◌∙◌}
 use mathlib.Core.Bool.{false}
 use native.Mathlib.Omega.{arith}
-use Rattle.waker.specs.Choice.{choice, when◌then◌else◌}
+use Rattle.waker.specs.Choice.{choice}
 use Rattle.channel.specs.Position.{index_of, is_marked, unmarked}
 use Rattle.channel.specs.PositionBounds.{Fits}
 use Rattle.channel.specs.declared.position.Position.{Position}

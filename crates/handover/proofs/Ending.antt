@@ -7,7 +7,7 @@ use mathlib.Core.List.{[], ◌∷◌}
 use native.Mathlib.Omega.{arith}
 use lib.Dec.{leb}
 use borrow.Author.Tests.{leb-true}
-use Rattle.waker.specs.Choice.{choice, when◌then◌else◌}
+use Rattle.waker.specs.Choice.{choice}
 use Rattle.waker.specs.Context.{try_selected}
 use Rattle.waker.specs.declared.context.Thread.{Thread}
 use Rattle.waker.specs.declared.context.Selected.{Selected}

@@ -5,7 +5,7 @@ use mathlib.Core.Bool.{true, false}
 use mathlib.Core.Logic.{◌≢◌}
 use native.Mathlib.Omega.{arith}
 use native.Mathlib.Decide.{ℕ_discrete}
-use Rattle.waker.specs.Choice.{choice, when◌then◌else◌}
+use Rattle.waker.specs.Choice.{choice}
 use Rattle.waker.specs.Context.{thread}
 use Rattle.waker.specs.declared.context.Thread.{Thread}
 use Rattle.waker.specs.declared.context.Selected.TheVariants as word

@@ -59,6 +59,7 @@ impl Counts {
 }
 
 /// A thread's number, or 0 where no record has such a thread.
+#[tactic(auto, unfolding(crate::specs::Left::bounded_by, waker::specs::Choice::choice))]
 fn bounded(thread: Thread) -> usize
     ensures { result ≡ bounded_by thread }
 {
@@ -162,6 +163,7 @@ fn begun(
 }
 
 /// What a frame leaves of the thread that it names, once a channel was made. A step that comes here is of no thread that is there.
+#[tactic(auto, unfolding(crate::specs::Left::left_for, waker::specs::Choice::choice))]
 pub fn answered(frame: Frame, flavour: Flavour, count: u32, place: Place, counts: Counts) -> Left
     ensures { result ≡ left_for flavour count place counts frame }
 {

@@ -5,7 +5,7 @@ use mathlib.Core.Bool.{true}
 use mathlib.Core.List.{List, []}
 use native.Mathlib.Omega.{arith}
 use lib.ListN.{length, get_or, set, drop, replicate, length-append, length-replicate}
-use Rattle.waker.specs.Context.{threads, thread}
+use Rattle.waker.specs.Context.{threads}
 use Rattle.channel.specs.Answer.{ticks}
 use Rattle.channel.specs.Position.{slots, shape_of, at as position}
 use Rattle.channel.specs.PositionBounds.{Sized}

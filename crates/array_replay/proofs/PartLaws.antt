@@ -5,7 +5,7 @@ use mathlib.Core.List.{List}
 use native.Mathlib.Omega.{arith}
 use lib.ListN.{get_or, set}
 use lib.Seq.{set-get_or}
-use Rattle.waker.specs.Context.{threads, thread}
+use Rattle.waker.specs.Context.{thread}
 use Rattle.channel.specs.Position.{slots, at as position}
 use Rattle.channel.specs.declared.position.Position.{Position}
 use Rattle.channel.specs.declared.position.Shape.{Shape}

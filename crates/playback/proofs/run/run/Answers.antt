@@ -1,0 +1,51 @@
+-- then the replies to the lines from at on, are the whole output; end is at most 3 * at. A channel's replay answers the rest.
+-- The measure is what is left of the text and one byte more, since at passes a last line without 0a by one.
+use Prim.Native.Nat.{◌-◌}
+use Rattle.served.proofs.ServedLaws.{grown_nothing}
+use Rattle.served.proofs.RunLaws.{running_none, running_turn, running_all}
+use Rattle.playback.proofs.HeadingLaws.{served_refused, served_array, served_zero, allows_array, allows_zero, room_first, running_handed}
+use Rattle.playback.proofs.run.run.Goals as goal
+
+pub loop-at-init : goal.loop-at-init
+loop-at-init c = running_none _ _ _ _ _ grown_nothing (room_first _ _ c.requires)
+
+pub loop-at-preserved : goal.loop-at-preserved
+loop-at-preserved c =
+    running_turn _ _ _ _ _ c.loop-at.invariant c.loop-at-test.true _ c.line-line.ensures _ _
+    (served_refused _ c.parse-frame.ensures c.heading_of-heading.ensures _ c.in-Refused.is) _ _
+    c.put-end.ensures
+
+pub replay-requires : goal.replay-requires
+replay-requires c =
+    let turned =
+    running_turn _ _ _ _ _ c.loop-at.invariant c.loop-at-test.true _ c.line-line.ensures _ _
+    (served_array _ c.parse-frame.ensures c.heading_of-heading.ensures _ _ c.in-Array.is) _ _
+    c.put-start.ensures in
+    (turned.room, allows_array _ c.parse-frame.ensures c.heading_of-heading.ensures _ _ c.in-Array.is)
+
+pub returns-in-Array : goal.returns-in-Array
+returns-in-Array c =
+    running_handed _ _ _ _ _
+    (running_turn _ _ _ _ _ c.loop-at.invariant c.loop-at-test.true _ c.line-line.ensures _ _
+    (served_array _ c.parse-frame.ensures c.heading_of-heading.ensures _ _ c.in-Array.is) _ _
+    c.put-start.ensures)
+    _ _ c.out-in-Array-2-1.given c.replay.ensures
+
+pub replay-requires-in-Zero : goal.replay-requires-in-Zero
+replay-requires-in-Zero c =
+    let turned =
+    running_turn _ _ _ _ _ c.loop-at.invariant c.loop-at-test.true _ c.line-line.ensures _ _
+    (served_zero _ c.parse-frame.ensures c.heading_of-heading.ensures _ c.in-Zero.is) _ _
+    c.put-start-in-Zero.ensures in
+    (turned.room, allows_zero _ c.parse-frame.ensures c.heading_of-heading.ensures _ c.in-Zero.is)
+
+pub returns-in-Zero : goal.returns-in-Zero
+returns-in-Zero c =
+    running_handed _ _ _ _ _
+    (running_turn _ _ _ _ _ c.loop-at.invariant c.loop-at-test.true _ c.line-line.ensures _ _
+    (served_zero _ c.parse-frame.ensures c.heading_of-heading.ensures _ c.in-Zero.is) _ _
+    c.put-start-in-Zero.ensures)
+    _ _ c.out-in-Zero-2-1.given c.replay-in-Zero.ensures
+
+pub returns : goal.returns
+returns c = running_all _ _ _ _ _ c.loop-at.invariant c.loop-at-test.false

@@ -1,0 +1,6 @@
+use Rattle.playback.proofs.TraceLaws.{shown_whole}
+use Rattle.playback.proofs.trace.put_shown.Goals as goal
+
+pub returns : goal.returns
+returns c =
+    shown_whole c.requires c.args.served c.put-end.ensures c.put_record.ensures

@@ -101,6 +101,7 @@ fn run(text: &[u8], out: &mut [u8]) -> usize
 }
 
 /// The replay of a text: the whole output, where the buffer has three bytes for each of the text's and three more.
+#[tactic(auto, unfolding(crate::specs::Output::output_of, crate::specs::Output::room_for, text::specs::Output::pasted, waker::specs::Choice::choice))]
 pub fn replay(text: &[u8], out: &mut [u8]) -> Written
     ensures { Replayed text.now out.old result out.new }
 {

@@ -1,6 +1,5 @@
 -- then the replies to the lines from at on, are the whole output; end is at most 3 * at. A channel's replay answers the rest.
 -- The measure is what is left of the text and one byte more, since at passes a last line without 0a by one.
-use Prim.Native.Nat.{◌-◌}
 use Rattle.served.proofs.ServedLaws.{grown_nothing}
 use Rattle.served.proofs.RunLaws.{running_none, running_turn, running_all}
 use Rattle.playback.proofs.HeadingLaws.{served_refused, served_array, served_zero, allows_array, allows_zero, room_first, running_handed}

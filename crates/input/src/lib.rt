@@ -1,11 +1,11 @@
-//! Standard input, read to its end: a read that fails is told from the end.
+//! An input, read to its end: a read that fails is told from the end.
 #![tactic(auto)]
 
 ghost use Rattle.std.specs.Prelude.{◌+◌, ◌≤◌, ◌<◌, min, ◌≡◌, length};
 ghost use Rattle.std.proofs.Math.Seq.{paste};
 ghost use Rattle.input.specs.Input.{fitting, Within};
 
-use libc::STDIN_FILENO;
+use std::io::Read;
 
 /// So many bytes, up to the end of the input or of the buffer; or a read failed.
 #[derive(Clone, Copy)]
@@ -39,18 +39,16 @@ fn put(buf: &mut [u8], at: usize, from: &[u8], n: usize) -> usize
     at + count
 }
 
-/// Reads standard input into the buffer.
-pub fn read_text(buf: &mut [u8]) -> Input
+/// Reads the input into the buffer.
+pub fn read_text<R: Read>(reader: &mut R, buf: &mut [u8]) -> Input
     ensures { Within result (length buf.new) }
 {
     let mut chunk = [0u8; 4096];
     let mut n = 0;
     while n < buf.len() {
-        let got = libc::read(STDIN_FILENO, &mut chunk);
-        if got < 0 {
+        let Ok(some) = reader.read(&mut chunk) else {
             return Input::Failed;
-        }
-        let some = io::count(got, &chunk);
+        };
         if some == 0 {
             return Input::Whole(n);
         }

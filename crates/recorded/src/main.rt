@@ -3,22 +3,22 @@
 
 ghost use Rattle.std.specs.Prelude.{◌≤◌, length};
 
-use libc::{STDIN_FILENO, STDOUT_FILENO};
 use playback::run;
 use playback::run::{TEXT_LIMIT, Written};
+use std::io::{Read, Write};
 use text::hex;
 use text::hex::Number;
 
 /// Reads `n` bytes; false where there are fewer.
-fn read_bytes(buf: &mut [u8], n: usize) -> bool
+fn read_bytes<R: Read>(reader: &mut R, buf: &mut [u8], n: usize) -> bool
     requires { n ≤ length buf.old }
 {
     let mut one = [0u8; 1];
     let mut i = 0;
     while i < n {
-        if libc::read(STDIN_FILENO, &mut one) != 1 {
+        let Ok(1) = reader.read(&mut one) else {
             return false;
-        }
+        };
         buf[i] = one[0];
         i += 1;
     }
@@ -26,9 +26,9 @@ fn read_bytes(buf: &mut [u8], n: usize) -> bool
 }
 
 /// Replays the next stored text, which stands behind its length in eight digits; false where there is none.
-fn replay_next() -> bool {
+fn replay_next<R: Read, W: Write>(reader: &mut R, writer: &mut W) -> bool {
     let mut digits = [0u8; 8];
-    if !read_bytes(&mut digits, 8) {
+    if !read_bytes(reader, &mut digits, 8) {
         return false;
     }
     let number = hex::hex(&digits);
@@ -40,7 +40,7 @@ fn replay_next() -> bool {
         return false;
     }
     let mut text = [0u8; 60_000];
-    if !read_bytes(&mut text, n) {
+    if !read_bytes(reader, &mut text, n) {
         return false;
     }
     let mut out = [0u8; 180_003];
@@ -48,13 +48,13 @@ fn replay_next() -> bool {
     let Written::Whole(end) = written else {
         return false;
     };
-    io::write_all(STDOUT_FILENO, &out[..end])
+    writer.write_all(&out[..end]).is_ok()
 }
 
 /// A proved loop has to end: this one counts down from more texts than there are.
-fn main() {
+fn main(rt: HostRuntime) {
     let mut turns: u32 = 0xffff_ffff;
-    while turns > 0 && replay_next() {
+    while turns > 0 && replay_next(&mut rt.stdin(), &mut rt.stdout()) {
         turns -= 1;
     }
 }

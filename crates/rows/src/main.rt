@@ -5,41 +5,40 @@ mod rows;
 mod run;
 
 use crate::run::Run;
-use libc::STDOUT_FILENO;
 
 /// A row's number, and whether it agrees.
-fn tell(row: u64, run: Run) {
-    io::print_decimal(STDOUT_FILENO, row);
+fn tell(rt: &impl Print, row: u64, run: Run) {
+    let _ = print!(rt; "{row}");
     if run.agrees {
-        io::write_all(STDOUT_FILENO, b" agrees\n");
+        let _ = rt.write_all(b" agrees\n");
         return;
     }
-    io::write_all(STDOUT_FILENO, b" DIFFERS\n");
+    let _ = rt.write_all(b" DIFFERS\n");
 }
 
-fn main() {
-    tell(1, rows::shape(1, 2, 4));
-    tell(2, rows::shape(3, 4, 8));
-    tell(3, rows::shape(4, 8, 16));
-    tell(4, rows::shape(64, 128, 256));
-    tell(5, rows::full());
-    tell(6, rows::received());
-    tell(7, rows::three());
-    tell(8, rows::four());
-    tell(9, rows::receive_cycles());
-    tell(10, rows::send_cycles());
-    tell(11, rows::older());
-    tell(12, rows::late());
-    tell(12, rows::picked());
-    tell(13, rows::no_array(0));
-    tell(13, rows::no_array(65));
-    tell(14, rows::last_tick());
-    tell(15, rows::lonely());
-    tell(15, rows::two());
-    tell(15, rows::lonely_array());
-    tell(15, rows::built_lonely());
-    tell(16, rows::failed_send());
-    tell(16, rows::failed_receive());
-    tell(16, rows::no_exchange());
-    tell(16, rows::built_spent());
+fn main(rt: HostRuntime) {
+    tell(&rt, 1, rows::shape(1, 2, 4));
+    tell(&rt, 2, rows::shape(3, 4, 8));
+    tell(&rt, 3, rows::shape(4, 8, 16));
+    tell(&rt, 4, rows::shape(64, 128, 256));
+    tell(&rt, 5, rows::full());
+    tell(&rt, 6, rows::received());
+    tell(&rt, 7, rows::three());
+    tell(&rt, 8, rows::four());
+    tell(&rt, 9, rows::receive_cycles());
+    tell(&rt, 10, rows::send_cycles());
+    tell(&rt, 11, rows::older());
+    tell(&rt, 12, rows::late());
+    tell(&rt, 12, rows::picked());
+    tell(&rt, 13, rows::no_array(0));
+    tell(&rt, 13, rows::no_array(65));
+    tell(&rt, 14, rows::last_tick());
+    tell(&rt, 15, rows::lonely());
+    tell(&rt, 15, rows::two());
+    tell(&rt, 15, rows::lonely_array());
+    tell(&rt, 15, rows::built_lonely());
+    tell(&rt, 16, rows::failed_send());
+    tell(&rt, 16, rows::failed_receive());
+    tell(&rt, 16, rows::no_exchange());
+    tell(&rt, 16, rows::built_spent());
 }

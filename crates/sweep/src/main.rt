@@ -1,7 +1,6 @@
 //! A program: makes arrays of every capacity for every number of threads, one after the other, and shows the last. It is there to be counted.
 #![tactic(auto)]
 
-use libc::STDOUT_FILENO;
 use saved::line;
 use schedule::record::Record;
 
@@ -19,8 +18,8 @@ fn last_made() -> Record {
     made.next
 }
 
-fn main() {
+fn main(rt: HostRuntime) {
     let mut out = [0u8; 3265];
     line::put_record(&mut out, 0, last_made());
-    io::write_all(STDOUT_FILENO, &out);
+    let _ = rt.stdout().write_all(&out);
 }

@@ -1,3 +1,4 @@
+-- `replay` answers the lines one after the other. The loop's invariant, Parted: the parts make the record that answers the rest of
 -- the lines, which has grown, so it is in form. The measure is what is left of the text and one byte more, since at passes a last
 -- line without 0a by one.
 use mathlib.Core.Path.{refl}

@@ -1,3 +1,4 @@
+-- `book::bench_book` meets its contract: the rows hold.
 use Rattle.book.proofs.Rows.{rows}
 use Rattle.book.proofs.bench_book.Goals as goal
 

@@ -1,3 +1,4 @@
+-- `claims::claim_law` promises the claim law, which `proofs/Law.antt` proves.
 use Rattle.claims.proofs.Law.{claim_law}
 use Rattle.claims.proofs.claim_law.Goals as goal
 

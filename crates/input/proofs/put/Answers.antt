@@ -1,3 +1,4 @@
+-- `put` copies what fits: after i turns the buffer is the one before with the first i bytes pasted over it.
 use Prim.Native.Nat.{ℕ, ◌+◌, ◌<◌}
 use mathlib.Core.Path.{◌≡◌, sym, ap, ◌∙◌}
 use mathlib.Core.List.{List}

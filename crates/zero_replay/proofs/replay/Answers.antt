@@ -1,3 +1,4 @@
+-- `replay` writes what a fresh rendezvous replies to the lines. The loop's invariant, Parted: its parts make the record that answers the rest.
 use mathlib.Core.Path.{refl}
 use native.Mathlib.Omega.{arith}
 use Rattle.served.proofs.RunLaws.{running_all}

@@ -1,3 +1,4 @@
+-- `replay` writes what a fresh rendezvous replies to the lines. The loop's invariant, Parted: its parts make the record that answers the rest.
 use Prim.Native.Nat.{◌+◌, ◌-◌}
 use lib.ListN.{length}
 use Rattle.zero_replay.proofs.LoopLaws.{Parted}

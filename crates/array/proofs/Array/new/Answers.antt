@@ -1,3 +1,4 @@
+-- `Array::new` meets its contract: the stamps so far are filled up to `i`.
 use native.Mathlib.Omega.{arith}
 use Rattle.array.proofs.ArrayLaws.{filled_next}
 use Rattle.array.proofs.Array.new.Goals as goal

@@ -1,3 +1,4 @@
+-- `Array::new` meets its contract: the stamps so far are filled up to `i`.
 use Prim.Native.Nat.{◌≤◌, ◌-◌}
 use mathlib.Core.Path.{◌≡◌}
 use Rattle.array.proofs.ArrayLaws.{filled_to}

@@ -1,3 +1,4 @@
+-- `Array::step` meets its contract: what each call ensures, one after the other; the slots are there by the laws.
 use Rattle.array.proofs.ArrayLaws.{effect_there}
 use Rattle.array.proofs.Array.step.Goals as goal
 

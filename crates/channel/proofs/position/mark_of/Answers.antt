@@ -1,3 +1,4 @@
+-- `mark_of` meets its contract: the capacity's leading zeros and its length in bits make 64.
 use Prim.Native.Nat.{ℕ, ◌+◌, ◌*◌, ◌%◌, ◌^◌, ◌<◌, ◌≤◌}
 use mathlib.Core.Path.{◌≡◌, ap, ◌∙◌}
 use native.Mathlib.Nat.{lt_of_not-le, not-le_of_lt, one-mul}

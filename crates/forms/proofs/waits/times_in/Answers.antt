@@ -1,3 +1,4 @@
+-- The loop's invariant: `times` counts the thread's entries before `i`.
 use native.Mathlib.Omega.{arith}
 use borrow.Author.Rules.{rules}
 use Rattle.waker.proofs.WakerLaws.{length_mapped}

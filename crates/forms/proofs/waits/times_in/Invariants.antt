@@ -1,3 +1,4 @@
+-- The loop's invariant: `times` counts the thread's entries before `i`.
 use Prim.Native.Nat.{◌≤◌, ◌-◌}
 use mathlib.Core.Path.{◌≡◌}
 use lib.ListN.{length}

@@ -1,3 +1,4 @@
+-- `making` meets its contract, by the test of the capacity.
 use Rattle.playback.proofs.HeadingLaws.{making_zero, making_array}
 use Rattle.playback.proofs.run.making.Goals as goal
 

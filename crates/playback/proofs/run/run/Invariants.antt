@@ -1,3 +1,4 @@
+-- `run` writes the output of the whole text. The loop's invariant, Running with nothing made: what is written up to end, and
 -- then the replies to the lines from at on, are the whole output; end is at most 3 * at. A channel's replay answers the rest.
 -- The measure is what is left of the text and one byte more, since at passes a last line without 0a by one.
 use Prim.Native.Nat.{◌+◌, ◌-◌}

@@ -1,3 +1,4 @@
+-- `put_shown` meets its contract: the reply's line and the record's line, one after the other.
 use Rattle.playback.proofs.TraceLaws.{shown_whole}
 use Rattle.playback.proofs.trace.put_shown.Goals as goal
 

@@ -1,3 +1,4 @@
+-- `put_long` meets its contract: two words, one after the other.
 use native.Mathlib.Omega.{arith}
 use Rattle.text.proofs.PasteLaws.{put_put}
 use Rattle.saved.proofs.line.put_long.Goals as goal

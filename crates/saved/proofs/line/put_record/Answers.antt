@@ -1,3 +1,4 @@
+-- `put_record` writes the whole line. The loop's invariant, Writing: the first i fields stand from at to end.
 -- The measure is how many fields are left.
 use Rattle.saved.proofs.LineLaws.{writing_none, writing_fits, writing_turn, writing_end, writing_all}
 use Rattle.saved.proofs.line.put_record.Goals as goal

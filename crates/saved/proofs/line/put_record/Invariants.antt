@@ -1,3 +1,4 @@
+-- `put_record` writes the whole line. The loop's invariant, Writing: the first i fields stand from at to end.
 -- The measure is how many fields are left.
 use Prim.Native.Nat.{◌-◌}
 use Rattle.saved.specs.Fields.{field_count}

@@ -1,3 +1,4 @@
+-- `making` meets its contract, by the test of the capacity.
 use Rattle.served.proofs.ServedLaws.{making_zero, making_array}
 use Rattle.served.proofs.held.making.Goals as goal
 

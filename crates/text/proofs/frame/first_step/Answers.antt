@@ -1,3 +1,4 @@
+-- `first_step` meets its contract: four bytes, two of them digits, and the line's end.
 use mathlib.Core.Path.{sym, ◌∙◌}
 use native.Mathlib.Omega.{arith}
 use Rattle.text.proofs.HexLaws.{digit_only}

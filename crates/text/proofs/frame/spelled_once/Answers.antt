@@ -1,3 +1,4 @@
+-- The text of a frame is its one line, by the laws of texts.
 use Rattle.text.proofs.TextLaws.{read_written, written_read}
 use Rattle.text.proofs.frame.spelled_once.Goals as goal
 

@@ -1,3 +1,4 @@
+-- Invariant: `value` is what the digits read so far spell, below 16 to their number.
 use mathlib.Core.Path.{sym, ◌∙◌}
 use native.Mathlib.Omega.{arith}
 use Rattle.text.proofs.HexLaws.{hex_more, hex_none, hex_end, digit_only, room, grown}

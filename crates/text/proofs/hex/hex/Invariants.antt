@@ -1,3 +1,4 @@
+-- Invariant: `value` is what the digits read so far spell, below 16 to their number.
 use Prim.Native.Nat.{◌≤◌, ◌<◌, ◌-◌, ◌^◌}
 use mathlib.Core.Path.{◌≡◌}
 use lib.ListN.{length, drop}

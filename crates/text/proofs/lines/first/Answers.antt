@@ -1,3 +1,4 @@
+-- Invariant: none of the n bytes passed is 0a. The measure is what is left.
 use native.Mathlib.Omega.{arith}
 use Rattle.text.proofs.LineLaws.{passed_none, passed_more, passed_found, passed_all}
 use Rattle.text.proofs.lines.first.Goals as goal

@@ -1,3 +1,4 @@
+-- Invariant: none of the n bytes passed is 0a. The measure is what is left.
 use Prim.Native.Nat.{◌≤◌, ◌-◌}
 use lib.ListN.{length}
 use Rattle.text.proofs.LineLaws.{Passed}

@@ -1,3 +1,4 @@
+-- `put_byte` meets its contract: two stores, one after the other.
 use Rattle.text.proofs.PasteLaws.{put_two}
 use Rattle.text.proofs.output.put_byte.Goals as goal
 

@@ -1,3 +1,4 @@
+-- `put_code` meets its contract: a byte and the end.
 use native.Mathlib.Omega.{arith}
 use Rattle.text.proofs.PasteLaws.{put_put}
 use Rattle.text.proofs.output.put_code.Goals as goal

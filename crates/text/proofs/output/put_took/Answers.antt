@@ -1,3 +1,4 @@
+-- `put_took` meets its contract: two bytes, a word and the end.
 use Rattle.text.proofs.PasteLaws.{put_four}
 use Rattle.text.proofs.output.put_took.Goals as goal
 

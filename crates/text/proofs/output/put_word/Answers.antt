@@ -1,3 +1,4 @@
+-- `put_word` meets its contract: four bytes, one after the other.
 use Rattle.text.proofs.PasteLaws.{put_four}
 use Rattle.text.proofs.output.put_word.Goals as goal
 

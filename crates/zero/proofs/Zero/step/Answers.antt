@@ -1,3 +1,4 @@
+-- `zero::Zero::step` meets its contract: look, work, and do.
 use Rattle.zero.proofs.ZeroLaws.{reached}
 use Rattle.zero.proofs.Zero.step.Goals as goal
 

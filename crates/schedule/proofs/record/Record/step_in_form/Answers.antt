@@ -1,3 +1,4 @@
+-- `Record::step_in_form` meets its contract: a law a path; the form tells what a step on the channel relies on.
 use mathlib.Core.Path.{◌≡◌, sym, ap, ◌∙◌}
 use lib.ListN.{length}
 use borrow.Author.Rules.{rules}

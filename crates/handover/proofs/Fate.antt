@@ -49,7 +49,7 @@ module _ (M : Moment Past) (I : Inv M) where
 
   module _ (t : ℕ) (σ : Side) (d : Tick) (W : Waits M.now t σ d) where
     -- What becomes of it, and of those ahead of it while it waits on.
-    pub record Goes_on (N : Moment Past) (a : Act) : Type 0 where
+    pub record GoesOn (N : Moment Past) (a : Act) : Type 0 where
       pub fate : Fate M N a t σ d
       pub fewer : Waits N.now t σ d → ahead_of t (queue_at N.now σ) ≤ ahead_of t (queue_at M.now σ)
 
@@ -64,7 +64,7 @@ module _ (M : Moment Past) (I : Inv M) where
         let f : other_side (side_of o) ≡ σ = cc in
         sym (twice (side_of o)) ∙ ap other_side f
 
-    other : (a : Act) (N : Moment Past) → Touch M N a t → Goes_on N a
+    other : (a : Act) (N : Moment Past) → Touch M N a t → GoesOn N a
     other a N (spares S) =
         record { fate = go S.word; fewer = λ still. S.ahead σ (omega (arith, queued M I t σ d W)) }
       where
@@ -77,7 +77,7 @@ module _ (M : Moment Past) (I : Inv M) where
 
     module _ (there : t < M.now.count) where
       abbrev Own : ZeroOutcome → Type 0
-      Own x = Goes_on (step_to M (thread t) (Wait σ d) x) (steps (thread t))
+      Own x = GoesOn (step_to M (thread t) (Wait σ d) x) (steps (thread t))
 
       late : d.0 ≤ M.now.clock.0 → Own (writes (effect.Abort σ) (Goes (Leave σ)))
       late l =
@@ -105,26 +105,26 @@ module _ (M : Moment Past) (I : Inv M) where
           rw e
           (either Own (leb d.0 M.now.clock.0) (λ g. late (leb-true d.0 M.now.clock.0 g)) (λ g. early))
 
-    own : Goes_on (next rule M (steps (thread t))) (steps (thread t))
+    own : GoesOn (next rule M (steps (thread t))) (steps (thread t))
     own =
-        step_is M (thread t) (Wait σ d) W.place (λ N y. Goes_on N (steps (thread t)))
+        step_is M (thread t) (Wait σ d) W.place (λ N y. GoesOn N (steps (thread t)))
         (λ n. record { fate = waits_on_still W; fewer = λ still. omega arith })
         (λ there. polled there (word_at M.now t) W.word)
 
     -- Any call.
-    others : (a : Act) → a ≢ steps (thread t) → Goes_on (next rule M a) a
+    others : (a : Act) → a ≢ steps (thread t) → GoesOn (next rule M a) a
     others a n = other a (next rule M a) ((every_call M I a).others t σ runs n)
 
-    pub goes_on_here : (a : Act) → Goes_on (next rule M a) a
+    pub goes_on_here : (a : Act) → GoesOn (next rule M a) a
     goes_on_here (begins u c m e) = others (begins u c m e) (λ g. let z : ◌≡◌ {A = ℕ} 0 1 = cc in omega arith)
     goes_on_here (fails u) = others (fails u) (λ g. let z : ◌≡◌ {A = ℕ} 0 1 = cc in omega arith)
     goes_on_here (advances e) = others (advances e) (λ g. let z : ◌≡◌ {A = ℕ} 0 1 = cc in omega arith)
     goes_on_here (takes u) = others (takes u) (λ g. let z : ◌≡◌ {A = ℕ} 0 1 = cc in omega arith)
     goes_on_here (steps u) = go (ℕ_discrete u.0 t)
       where
-        go : Dec (u.0 ≡ t) → Goes_on (next rule M (steps u)) (steps u)
+        go : Dec (u.0 ≡ t) → GoesOn (next rule M (steps u)) (steps u)
         go (yes e) =
-            subst (λ (w : Thread). Goes_on (next rule M (steps w)) (steps w)) (ap thread (sym e)) own
+            subst (λ (w : Thread). GoesOn (next rule M (steps w)) (steps w)) (ap thread (sym e)) own
         go (no n) =
             others (steps u) (λ g. let h : u ≡ thread t = cc in n (ap (λ (w : Thread). w.0) h))
 

@@ -1,6 +1,7 @@
 -- `run` writes the output of the whole text. The loop's invariant, Running with nothing made: what is written up to end, and
 -- then the replies to the lines from at on, are the whole output; end is at most 3 * at. A channel's replay answers the rest.
 -- The measure is what is left of the text and one byte more, since at passes a last line without 0a by one.
+use borrow.Author.Rules.{rules}
 use Rattle.served.proofs.ServedLaws.{grown_nothing}
 use Rattle.served.proofs.RunLaws.{running_none, running_turn, running_all}
 use Rattle.playback.proofs.HeadingLaws.{served_refused, served_array, served_zero, allows_array, allows_zero, room_first, running_handed}
@@ -29,7 +30,7 @@ returns-in-Array c =
     (running_turn _ _ _ _ _ c.loop-at.invariant c.loop-at-test.true _ c.line-line.ensures _ _
     (served_array _ c.parse-frame.ensures c.heading_of-heading.ensures _ _ c.in-Array.is) _ _
     c.put-start.ensures)
-    _ _ c.out-in-Array-2-1.given c.replay.ensures
+    _ _ (search rules) c.replay.ensures
 
 pub replay-requires-in-Zero : goal.replay-requires-in-Zero
 replay-requires-in-Zero c =
@@ -45,7 +46,7 @@ returns-in-Zero c =
     (running_turn _ _ _ _ _ c.loop-at.invariant c.loop-at-test.true _ c.line-line.ensures _ _
     (served_zero _ c.parse-frame.ensures c.heading_of-heading.ensures _ c.in-Zero.is) _ _
     c.put-start-in-Zero.ensures)
-    _ _ c.out-in-Zero-2-1.given c.replay-in-Zero.ensures
+    _ _ (search rules) c.replay-in-Zero.ensures
 
 pub returns : goal.returns
 returns c = running_all _ _ _ _ _ c.loop-at.invariant c.loop-at-test.false

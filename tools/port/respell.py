@@ -61,10 +61,9 @@ def snake(n):
 
 
 def antt_files():
-    return sorted(
-        glob.glob("crates/*/specs/**/*.antt", recursive=True)
-        + glob.glob("crates/*/proofs/**/*.antt", recursive=True)
-    )
+    """Definitions, lemmas and walks. The names of goals, in today's Invariants.antt and Answers.antt, are the checker's."""
+    files = glob.glob("crates/*/specs/**/*.antt", recursive=True) + glob.glob("crates/*/proofs/**/*.antt", recursive=True)
+    return sorted(f for f in files if os.path.basename(f) not in ("Invariants.antt", "Answers.antt"))
 
 
 def is_walk(f):

@@ -8,17 +8,17 @@ use Rattle.waker.specs.declared.wakers.Side.{Side}
 use Rattle.channel.specs.Position.{at}
 use Rattle.array.specs.declared.call.SendPlace.TheVariants as send
 use Rattle.array.specs.declared.call.ReceivePlace.TheVariants as receive
-use Rattle.array.specs.declared.call.ArrayCall.TheVariants.{Send, Receive, Len, IsEmpty, IsFull, IsDisconnected, Disconnect}
+use Rattle.array.specs.declared.call.ArrayCall.TheVariants.{Send, Receive}
 use Rattle.schedule.specs.Record.{place_of}
 use Rattle.schedule.specs.History.{Act, act_on, after, steps}
 use Rattle.places.specs.declared.place.Place.{Place}
-use Rattle.places.specs.declared.place.Place.TheVariants.{Idle, Array, Zero, Done}
+use Rattle.places.specs.declared.place.Place.TheVariants.{Array}
 use Rattle.schedule.specs.declared.record.Record.{Record}
 use Rattle.schedule.specs.declared.record.Replied.{Replied}
 use Rattle.bounds.specs.declared.refusal.Reply.{Reply}
 use Rattle.bounds.specs.declared.refusal.Reply.TheVariants as reply
 
--- 01's letters for the places of an array's send and receive.
+-- The rules' letters for the places of an array's send and receive.
 pub data Letter : Type 0 where
   A B C D E F elsewhere : Letter
 
@@ -35,14 +35,7 @@ letter_of (Array (Receive (receive.ClaimHead w))) = C
 letter_of (Array (Receive (receive.LoadTail w))) = D
 letter_of (Array (Receive (receive.TakeMessage w))) = E
 letter_of (Array (Receive (receive.StoreStamp w m))) = F
-letter_of (Array (Len p)) = elsewhere
-letter_of (Array (IsEmpty p)) = elsewhere
-letter_of (Array (IsFull p)) = elsewhere
-letter_of (Array IsDisconnected) = elsewhere
-letter_of (Array Disconnect) = elsewhere
-letter_of (Zero k) = elsewhere
-letter_of Idle = elsewhere
-letter_of (Done a) = elsewhere
+letter_of _ = elsewhere
 
 -- The places from which a thread makes its next steps.
 unfoldable pub trail : Record → ℕ → ℕ → List Letter

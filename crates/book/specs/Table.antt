@@ -1,4 +1,4 @@
--- The starred rows of 01's bench book, as a single table.
+-- The starred rows of the bench book, as a single table.
 use Rattle.std.specs.Prelude.{ℕ, ◌≡◌, List, [], ◌∷◌, ◌++◌, map, length, replicate}
 use Rattle.waker.specs.Context.{thread}
 use Rattle.waker.specs.declared.context.Selected.{Selected}
@@ -55,7 +55,7 @@ waiting σ l = shows (ask.waiting σ) (ask.entries l)
 abbrev word_is : ℕ → Selected → Shows
 word_is t w = shows (ask.word t) (ask.selected w)
 
--- Thread t begins a call, by 01's code, with a message and no deadline.
+-- Thread t begins a call, by its code, with a message and no deadline.
 abbrev begin : ℕ → ℕ → ℕ → Act
 begin t code m = begins (thread t) code m (ticks no_deadline)
 

@@ -7,7 +7,8 @@ use native.Mathlib.Omega.{arith}
 use native.Mathlib.Decide.{ℕ_discrete}
 use Rattle.channel.specs.Position.{successor}
 use Rattle.channel.specs.PositionBounds.{Fits}
-use Rattle.array.specs.ArrayOutcome.{writes}
+use Rattle.std.specs.Prelude.{Some}
+use Rattle.channel.specs.Outcome.{writes}
 use Rattle.array.specs.Array.{with_head, with_tail}
 use Rattle.channel.specs.declared.position.Position.{Position}
 use Rattle.channel.specs.declared.position.Shape.{Shape}
@@ -16,7 +17,7 @@ use Rattle.array.specs.declared.call.SendPlace.TheVariants as send
 use Rattle.array.specs.declared.call.ReceivePlace.TheVariants as receive
 use Rattle.array.specs.declared.call.ArrayCall.TheVariants.{Send, Receive}
 use Rattle.array.specs.declared.outcome.ArrayEffect.TheVariants.{ClaimSend, ClaimReceive}
-use Rattle.array.specs.declared.outcome.ArrayNext.TheVariants.{Goes}
+use Rattle.channel.specs.declared.outcome.Next.TheVariants.{Goes}
 use Rattle.places.specs.declared.begin.Code.TheVariants as code
 use Rattle.schedule.specs.declared.record.Record.{Record}
 use Rattle.claims.specs.Claims.{Claims, Call, Past, claimed_send, claimed_receive}
@@ -77,7 +78,7 @@ module _ (r : Record) (h : Past) (t : ℕ) (F : Fits r.shape) (C : CoreNow r h t
         let same : sent.message n ≡ c.message n = updated_else c.message c.sends _ n (omega arith) in
         inr (omega arith, e.1 ∙ ap (λ (x : ℕ). x ∷ []) (sym same))
 
-    claim_send : Change r h t (ClaimSend (successor S w))
+    claim_send : Change r h t (Some (ClaimSend (successor S w)))
     claim_send =
         record {
           core =
@@ -157,7 +158,7 @@ module _ (r : Record) (h : Past) (t : ℕ) (F : Fits r.shape) (C : CoreNow r h t
     next_stored : Stored S s c c.receives
     next_stored = (is_held S F s c c.receives receive_ready (here S F s c c.receives C)).2 (omega arith)
 
-    claim_receive : Change r h t (ClaimReceive (successor S w))
+    claim_receive : Change r h t (Some (ClaimReceive (successor S w)))
     claim_receive =
         record {
           core =

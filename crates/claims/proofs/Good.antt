@@ -3,14 +3,13 @@ use Prim.Native.Nat.{ℕ}
 use mathlib.Core.Path.{◌≡◌, refl}
 use mathlib.Core.Bool.{Bool, true, false}
 use mathlib.Core.Logic.{◌≢◌}
-use Rattle.waker.specs.Choice.{choice, when◌then◌else◌}
-use Rattle.array.specs.ArrayOutcome.{goes, ends}
+use Rattle.std.specs.Prelude.{Option, None, if◌then◌else◌}
+use Rattle.channel.specs.Outcome.{goes, ends}
+use Rattle.array.specs.ArrayOutcome.{ArrayOutcome}
 use Rattle.array.specs.Array.{applied}
 use Rattle.channel.specs.declared.answer.Answer.{Answer}
 use Rattle.array.specs.declared.call.ArrayCall.{ArrayCall}
 use Rattle.array.specs.declared.outcome.ArrayEffect.{ArrayEffect}
-use Rattle.array.specs.declared.outcome.ArrayEffect.TheVariants.{Nothing}
-use Rattle.array.specs.declared.outcome.ArrayOutcome.{ArrayOutcome}
 use Rattle.schedule.specs.Record.{place_after_array}
 use Rattle.places.specs.declared.place.Place.{Place}
 use Rattle.places.specs.declared.place.Place.TheVariants.{Array, Done}
@@ -27,15 +26,15 @@ module _ (r : Record) (h : Past) (t : ℕ) where
   CoreNow = Core r.shape r.array h.claims
 
   -- The claims and the call after an effect.
-  abbrev pub after : ArrayEffect → Claims × Call
+  abbrev pub after : Option ArrayEffect → Claims × Call
   after e = made_by r h.claims (h.calls t) e
 
   -- What stands at t's place after it.
-  abbrev pub StandsNext : ArrayEffect → Place → Type 0
+  abbrev pub StandsNext : Option ArrayEffect → Place → Type 0
   StandsNext e p = Stands r.shape (applied r.array e) (after e).0 (with_count (count (after e).0) (after e).1) p
 
   -- What an effect leaves.
-  pub record Change (e : ArrayEffect) : Type 0 where
+  pub record Change (e : Option ArrayEffect) : Type 0 where
     pub core : Core r.shape (applied r.array e) (after e).0
     pub rely : (u : ℕ) → u ≢ t → Rely r.shape r.array (applied r.array e) h.claims (after e).0 (h.calls u)
     pub adds : Adds h.claims (after e).0 (h.calls t) (after e).1
@@ -44,14 +43,13 @@ module _ (r : Record) (h : Past) (t : ℕ) where
     pub change : Change o.effect
     pub stands : StandsNext o.effect (place_after_array o.next)
 
-  pub either : (b : Bool) {x y : ArrayOutcome} → (b ≡ true → Good x) → (b ≡ false → Good y) → Good (when b then x else y)
-  unfolding choice
+  pub either : (b : Bool) {x y : ArrayOutcome} → (b ≡ true → Good x) → (b ≡ false → Good y) → Good (if b then x else y)
   either true p q = p refl
   either false p q = q refl
 
   -- Steps that write nothing.
   module _ (C : CoreNow) where
-    still : Change Nothing
+    still : Change None
     still =
         record {
           core = C;
@@ -59,8 +57,8 @@ module _ (r : Record) (h : Past) (t : ℕ) where
           adds = adds_none h.claims h.claims.took (h.calls t);
         }
 
-    pub to : (p : ArrayCall) → StandsNext Nothing (Array p) → Good (goes p)
+    pub to : (p : ArrayCall) → StandsNext None (Array p) → Good (goes p)
     to p a = record { change = still; stands = a }
 
-    pub over : (x : Answer) → StandsNext Nothing (Done x) → Good (ends x)
+    pub over : (x : Answer) → StandsNext None (Done x) → Good (ends x)
     over x a = record { change = still; stands = a }

@@ -3,6 +3,7 @@ use Prim.Native.Nat.{ℕ, ◌+◌, ◌-◌, ◌≤◌}
 use mathlib.Core.Path.{◌≡◌}
 use mathlib.Core.Logic.{◌⊎◌, ◌≢◌}
 use mathlib.Core.List.{List, [], ◌∷◌}
+use Rattle.std.specs.List.{Any}
 use Rattle.channel.specs.declared.position.Position.{Position}
 use Rattle.channel.specs.declared.position.Shape.{Shape}
 use Rattle.array.specs.declared.Array.{Array as Memory}
@@ -23,7 +24,7 @@ use Rattle.places.specs.declared.begin.Code.TheVariants as code
 use Rattle.places.specs.declared.place.Place.{Place}
 use Rattle.places.specs.declared.place.Place.TheVariants.{Idle, Array, Zero, Done}
 use Rattle.claims.specs.Claims.{Claims, Call}
-use Rattle.claims.specs.Statement.{Sometime, TrueOf, Unclaimed, ClaimedFor}
+use Rattle.claims.specs.Statement.{TrueOf, Unclaimed, ClaimedFor}
 use Rattle.claims.proofs.Words.{slot_for, word}
 use Rattle.claims.proofs.Tails.{Tail}
 use Rattle.claims.proofs.Sides.{message_in, Side, sending, receiving, made, ReadyFor}
@@ -59,21 +60,21 @@ pub record SawBoth (S : Shape) (c : Claims) (l : List ℕ) (w v : Position) : Ty
   pub tail : Tail S w n
   pub head : v.0 ≡ word S k
   pub old : n ≤ c.sends
-  pub between : n ≡ c.sends → (k ≤ n) × (n ≤ k + S.capacity) × Sometime (λ x. x ≡ n - k) l
+  pub between : n ≡ c.sends → (k ≤ n) × (n ≤ k + S.capacity) × Any (λ x. x ≡ n - k) l
 
 -- A head: no send claim is past it yet, so that the array was empty then, or it was not empty at some moment.
 pub record MaybeEmpty (S : Shape) (c : Claims) (l : List ℕ) (v : Position) : Type 0 where
   pub k : ℕ
   pub is : v.0 ≡ word S k
   pub old : k ≤ c.receives
-  pub held : (c.sends ≡ k) ⊎ Sometime (λ x. x ≢ 0) l
+  pub held : (c.sends ≡ k) ⊎ Any (λ x. x ≢ 0) l
 
 -- A tail: no receive claim has made room past it yet, so that the array was full then, or it was not full at some moment.
 pub record MaybeFull (S : Shape) (c : Claims) (l : List ℕ) (w : Position) : Type 0 where
   pub n : ℕ
   pub is : Tail S w n
   pub old : n ≤ c.sends
-  pub held : (c.receives + S.capacity ≡ n) ⊎ Sometime (λ x. x ≢ S.capacity) l
+  pub held : (c.receives + S.capacity ≡ n) ⊎ Any (λ x. x ≢ S.capacity) l
 
 -- The call has made no claim yet, and m is its message.
 abbrev pub Returns : Call → ℕ → Type 0

@@ -8,7 +8,7 @@ use native.Mathlib.Nat.{mul-le-mul_right}
 use native.Mathlib.Decide.{dec_le}
 use lib.Dec.{ltb, eqb}
 use borrow.Author.Tests.{ltb-true, ltb-false, eqb-true, eqb-false}
-use Rattle.waker.specs.Choice.{choice, when◌then◌else◌}
+use Rattle.std.specs.Prelude.{if◌then◌else◌}
 use Rattle.channel.specs.PositionBounds.{Fits}
 use Rattle.channel.specs.Position.{length_of}
 use Rattle.channel.specs.declared.position.Position.{Position}
@@ -46,7 +46,7 @@ module _ (S : Shape) (F : Fits S) where
 
   pub length_is : (w v : Position) (n k : ℕ) → Tail S w n → v.0 ≡ word S k → k ≤ n → n ≤ k + S.capacity →
       length_of S w v ≡ n - k
-  unfolding length_of choice
+  unfolding length_of
   length_is w v n k a e lo hi =
       rw (tail_index S F a, index_of_lem S F v k e, tail_unmarked S F a, e)
       (go (laps n k lo hi) (ltb (slot_for S k) (slot_for S n)) (ltb (slot_for S n) (slot_for S k)) (eqb (word S n) (word S k))
@@ -54,8 +54,8 @@ module _ (S : Shape) (F : Fits S) where
     where
       go : Laps n k → (x y z : Bool) → ltb (slot_for S k) (slot_for S n) ≡ x → ltb (slot_for S n) (slot_for S k) ≡ y →
           eqb (word S n) (word S k) ≡ z →
-          (when x then slot_for S n - slot_for S k else when y then S.capacity - slot_for S k + slot_for S n
-          else when z then 0 else S.capacity) ≡ n - k
+          (if x then slot_for S n - slot_for S k else if y then S.capacity - slot_for S k + slot_for S n
+          else if z then 0 else S.capacity) ≡ n - k
       go (inl q) true y z f g h = omega (arith, ltb-true, lap_split S F n, lap_split S F k)
       go (inr q) true y z f g h = omega (arith, ltb-true, lap_split S F n, lap_split S F k)
       go (inl q) false true z f g h = omega (arith, ltb-true, ltb-false, lap_split S F n, lap_split S F k)

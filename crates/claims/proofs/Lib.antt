@@ -2,6 +2,7 @@ pub mod Words
 pub mod Tails
 pub mod Lengths
 pub mod Sides
+pub mod Moments
 pub mod Core
 pub mod Owners
 pub mod Rely

@@ -7,15 +7,15 @@ use native.Mathlib.Omega.{arith}
 use native.Mathlib.Decide.{ℕ_discrete, dec_lt}
 use lib.ListN.{get_or, set, length, length-set, get_or-eq_default}
 use lib.Seq.{get_or-set_same, get_or-set_other}
-use Rattle.array.specs.ArrayOutcome.{goes}
+use Rattle.std.specs.Prelude.{Some}
+use Rattle.channel.specs.Outcome.{goes}
+use Rattle.array.specs.ArrayOutcome.{ArrayOutcome}
 use Rattle.array.specs.Array.{outcome_of, applied}
 use Rattle.array.specs.Weak.{fails_to}
 use Rattle.channel.specs.declared.answer.Tick.{Tick}
 use Rattle.channel.specs.declared.position.Shape.{Shape}
 use Rattle.array.specs.declared.Array.{Array as Memory}
 use Rattle.array.specs.declared.call.ArrayCall.{ArrayCall}
-use Rattle.array.specs.declared.outcome.ArrayOutcome.{ArrayOutcome}
-use Rattle.array.specs.declared.weak.Failure.TheVariants.{Back}
 use Rattle.array.proofs.WeakLaws.{every_failure}
 use Rattle.schedule.specs.Record.{thread_at, place_of, place_after_array, with_thread, after_array}
 use Rattle.places.specs.Begin.{code_of, unlimited, started_array, started}
@@ -87,7 +87,7 @@ module _ (capacity : ℕ) (M : Moment Past) (I : Inv capacity M) where
   abbrev after_step : ℕ → ArrayOutcome → Moment Past
   after_step t o =
       record {
-        now = after_array r t (record { array = applied r.array o.effect; next = o.next });
+        now = after_array r t (applied r.array o.effect, o.next);
         past = stepped_past r h t (made_by r h.claims (h.calls t) o.effect);
       }
 
@@ -143,7 +143,7 @@ module _ (capacity : ℕ) (M : Moment Past) (I : Inv capacity M) where
   steps_good t k e =
       every_good r h t (fits r I.kept) I.core I.owners k (knows t k e).0 (knows t k e).1
 
-  fails_good : (t : ℕ) (k j : ArrayCall) → fails_to k ≡ Back j → StandsAt M t (Array k) → Good r h t (goes j)
+  fails_good : (t : ℕ) (k j : ArrayCall) → fails_to k ≡ Some j → StandsAt M t (Array k) → Good r h t (goes j)
   fails_good t =
       every_failure (λ k j. StandsAt M t (Array k) → Good r h t (goes j)) (λ m w a. to r h t I.core _ (a.0, a.1.0))
       (λ w a. to r h t I.core _ (a.0, a.1.0))

@@ -26,7 +26,7 @@ use Rattle.places.specs.declared.begin.Code.TheVariants.{TrySend, TryReceive, Le
 use Rattle.places.specs.declared.place.Place.TheVariants.{Done}
 use Rattle.claims.specs.Claims.{Past, moment_after}
 
--- A call of thread t, by 01's code, in n steps, its answer left.
+-- A call of thread t, by the number of its code, in n steps, its answer left.
 abbrev call : ℕ → ℕ → ℕ → ℕ → List Act
 call t x m n = begins (thread t) x m (ticks no_deadline) ∷ replicate n (steps (thread t))
 

@@ -4,6 +4,7 @@ use mathlib.Core.Path.{◌≡◌, sym, ◌∙◌}
 use mathlib.Core.Logic.{◌⊎◌, inl, inr, ◌≢◌}
 use mathlib.Core.List.{List, [], ◌∷◌}
 use native.Mathlib.Omega.{arith}
+use Rattle.std.specs.List.{Any}
 use Rattle.channel.specs.PositionBounds.{Fits}
 use Rattle.channel.specs.declared.answer.Answer.{Answer}
 use Rattle.channel.specs.declared.answer.Answer.TheVariants.{Sent, Received, Full, Empty, Disconnected, Timeout, Number, Yes, No}
@@ -25,8 +26,9 @@ use Rattle.array.specs.declared.call.ArrayCall.TheVariants.{Send, Receive, Len, 
 use Rattle.places.specs.declared.place.Place.{Place}
 use Rattle.places.specs.declared.place.Place.TheVariants.{Idle, Array, Zero, Done}
 use Rattle.claims.specs.Claims.{Claims, Call, count, with_count, with_moment}
-use Rattle.claims.specs.Statement.{Sometime, ClaimedFor}
+use Rattle.claims.specs.Statement.{ClaimedFor}
 use Rattle.claims.proofs.Sides.{Side, sending, receiving, made, claims_of}
+use Rattle.claims.proofs.Moments.{now, before}
 use Rattle.claims.proofs.Core.{Core}
 use Rattle.claims.proofs.Owners.{AtMostOne, up}
 use Rattle.claims.proofs.Rely.{Rely, Own}
@@ -89,28 +91,28 @@ module _ (S : Shape) (F : Fits S) (s s' : Memory) (c c' : Claims) (a : Call) (R 
         old = omega (arith, x.old, more sending);
         between = λ (e : x.n ≡ c'.sends).
             let b = x.between (omega (arith, x.old, more sending)) in
-            (b.0, b.1, inr b.2);
+            (b.0, b.1, before _ b.2);
       }
 
   maybe_empty : {v : Position} → MaybeEmpty S c l v → MaybeEmpty S c' l' v
   maybe_empty x =
       record { k = x.k; is = x.is; old = omega (arith, x.old, more receiving); held = go x.held (one sending) }
     where
-      go : (c.sends ≡ x.k) ⊎ Sometime (λ n. n ≢ 0) l → AtMostOne c c' sending →
-          (c'.sends ≡ x.k) ⊎ Sometime (λ n. n ≢ 0) l'
+      go : (c.sends ≡ x.k) ⊎ Any (λ n. n ≢ 0) l → AtMostOne c c' sending →
+          (c'.sends ≡ x.k) ⊎ Any (λ n. n ≢ 0) l'
       go (inl e) (inl g) = inl (g ∙ e)
-      go (inl e) (inr g) = inr (inl (λ z. omega (arith, C.low)))
-      go (inr b) g = inr (inr b)
+      go (inl e) (inr g) = inr (now _ (λ z. omega (arith, C.low)))
+      go (inr b) g = inr (before _ b)
 
   maybe_full : {w : Position} → MaybeFull S c l w → MaybeFull S c' l' w
   maybe_full x =
       record { n = x.n; is = x.is; old = omega (arith, x.old, more sending); held = go x.held (one receiving) }
     where
-      go : (c.receives + S.capacity ≡ x.n) ⊎ Sometime (λ n. n ≢ S.capacity) l → AtMostOne c c' receiving →
-          (c'.receives + S.capacity ≡ x.n) ⊎ Sometime (λ n. n ≢ S.capacity) l'
+      go : (c.receives + S.capacity ≡ x.n) ⊎ Any (λ n. n ≢ S.capacity) l → AtMostOne c c' receiving →
+          (c'.receives + S.capacity ≡ x.n) ⊎ Any (λ n. n ≢ S.capacity) l'
       go (inl e) (inl g) = inl (omega arith)
-      go (inl e) (inr g) = inr (inl (λ z. omega (arith, F.some, C.high, x.old)))
-      go (inr b) g = inr (inr b)
+      go (inl e) (inr g) = inr (now _ (λ z. omega (arith, F.some, C.high, x.old)))
+      go (inr b) g = inr (before _ b)
 
   send_kept : (p : SendPlace) → SendKnows S s c a p → SendKnows S s' c' a' p
   send_kept (send.LoadTail m) x = x

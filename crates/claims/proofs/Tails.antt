@@ -3,7 +3,6 @@ use Prim.Native.Nat.{ℕ, ◌+◌}
 use mathlib.Core.Path.{◌≡◌, sym, ◌∙◌}
 use mathlib.Core.Bool.{false}
 use native.Mathlib.Omega.{arith}
-use Rattle.waker.specs.Choice.{choice}
 use Rattle.channel.specs.Position.{index_of, is_marked, unmarked}
 use Rattle.channel.specs.PositionBounds.{Fits}
 use Rattle.channel.specs.declared.position.Position.{Position}
@@ -18,7 +17,7 @@ pub data Tail (S : Shape) (w : Position) (n : ℕ) : Type 0 where
 
 module _ (S : Shape) (F : Fits S) where
   pub tail_unmarked : {w : Position} {n : ℕ} → Tail S w n → (unmarked S w).0 ≡ word S n
-  unfolding unmarked choice
+  unfolding unmarked
   tail_unmarked {w} {n} (plain e) = rw (not_marked S F w n e) e
   tail_unmarked {w} {n} (marked e) = rw (is_marked_lem S F w n e) (omega arith)
 

@@ -1,7 +1,6 @@
 -- Every step of a send and of a receive is good.
 use Prim.Native.Nat.{ℕ, ◌+◌}
 use mathlib.Core.Path.{◌≡◌, refl, sym, ap, ◌∙◌}
-use mathlib.Core.Logic.{inl}
 use native.Mathlib.Omega.{arith}
 use lib.Dec.{eqb}
 use borrow.Author.Tests.{eqb-true}
@@ -22,6 +21,7 @@ use Rattle.claims.specs.Claims.{Claims, Call, Past}
 use Rattle.claims.proofs.Words.{slot_for, index_of_lem, word_lap, slot_lap}
 use Rattle.claims.proofs.Tails.{tail_plain, tail_is, a_lap_on}
 use Rattle.claims.proofs.Sides.{stamp_in, Side, sending, receiving, past}
+use Rattle.claims.proofs.Moments.{now}
 use Rattle.claims.proofs.Core.{Slot, open_for, holds, here, is_open, is_held}
 use Rattle.claims.proofs.Owners.{Owners}
 use Rattle.claims.proofs.Rely.{Own}
@@ -88,7 +88,7 @@ module _ (r : Record) (h : Past) (t : ℕ) (F : Fits r.shape) (C : CoreNow r h t
       either r h t (eqb (s.head.0 + S.lap) w.0)
       (λ e.
       let q = a_lap_on S F c.receives a.1.n C.head a.1.is (eqb-true _ _ e) in
-      over r h t C _ (inl (omega (arith, C.high, a.1.old)), a.0)) (λ e. to r h t C _ (k, a.0))
+      over r h t C _ (now _ (omega (arith, C.high, a.1.old)), a.0)) (λ e. to r h t C _ (k, a.0))
   send_good k (send.StoreMessage m w) a =
       record {
         change = store_message r h t F C O a.0 m;
@@ -122,7 +122,7 @@ module _ (r : Record) (h : Past) (t : ℕ) (F : Fits r.shape) (C : CoreNow r h t
       (λ e.
       let q = tail_is S F C.tail (eqb-true _ _ e) a.1.is in
       either r h t (is_marked S s.tail) (λ f. over r h t C _ (tt, a.0))
-      (λ f. over r h t C _ (inl (omega (arith, a.1.old)), a.0.0))) (λ e. to r h t C _ (k, a.0))
+      (λ f. over r h t C _ (now _ (omega (arith, a.1.old)), a.0.0))) (λ e. to r h t C _ (k, a.0))
   receive_good k (receive.TakeMessage w) a =
       record {
         change = take_message r h t F C O a.0 a.2 a.3;

@@ -3,10 +3,11 @@ use Prim.Native.Nat.{ℕ, ◌+◌, ◌*◌, ◌-◌, ◌/◌, ◌%◌, ◌<◌}
 use mathlib.Core.Path.{◌≡◌, refl, sym, ap, ◌∙◌}
 use mathlib.Core.Bool.{Bool, true, false}
 use native.Mathlib.Omega.{arith}
-use native.Mathlib.Nat.{div-add-mod', mod-lt, add-mod_right, mul-add-div_right, div-eq_of_lt}
+use native.Mathlib.Nat.{div-add-mod', mod-lt, add-mod_right}
 use lib.Dec.{ltb}
+use Rattle.std.proofs.lemmas.Nat.{div-mul-add, mod-mul-add}
 use borrow.Author.Tests.{ltb-true, ltb-false, le-leb, lt-leb}
-use Rattle.waker.specs.Choice.{choice, when◌then◌else◌}
+use Rattle.std.specs.Prelude.{if◌then◌else◌}
 use Rattle.channel.specs.Position.{at, index_of, successor, is_marked}
 use Rattle.channel.specs.PositionBounds.{Fits}
 use Rattle.channel.specs.declared.position.Position.{Position}
@@ -20,10 +21,6 @@ slot_for S n = n % S.capacity
 unfoldable pub word : Shape → ℕ → ℕ
 word S n = n / S.capacity * S.lap + slot_for S n
 
--- q * c + r with r below c splits in one way only.
-div_at : (n q c r : ℕ) → r < c → n ≡ q * c + r → n / c ≡ q
-div_at n q c r h e = rw e (mul-add-div_right (omega arith) q r ∙ omega (arith, div-eq_of_lt h))
-
 module _ (S : Shape) (F : Fits S) where
   pub slot_below : (n : ℕ) → slot_for S n < S.capacity
   slot_below n = mod-lt n F.some
@@ -34,7 +31,7 @@ module _ (S : Shape) (F : Fits S) where
 
   pub word_at : (n q r : ℕ) → r < S.capacity → n ≡ q * S.capacity + r → word S n ≡ q * S.lap + r
   unfolding word
-  word_at n q r h e = rw (div_at n q S.capacity r h e, mod_at n q S.capacity r h e)
+  word_at n q r h e = rw (e, div-mul-add q S.capacity r h, mod-mul-add q S.capacity r h)
 
   -- In the first lap a claim is its own word.
   pub word_low : (n : ℕ) → n < S.capacity → word S n ≡ n
@@ -42,11 +39,11 @@ module _ (S : Shape) (F : Fits S) where
 
   word_div : (n : ℕ) → word S n / S.lap ≡ n / S.capacity
   unfolding word
-  word_div n = div_at _ (n / S.capacity) S.lap (slot_for S n) (omega (arith, slot_below n)) refl
+  word_div n = div-mul-add (n / S.capacity) S.lap (slot_for S n) (omega (arith, slot_below n))
 
   word_mod : (n : ℕ) → word S n % S.lap ≡ slot_for S n
   unfolding word
-  word_mod n = mod_at _ (n / S.capacity) S.lap (slot_for S n) (omega (arith, slot_below n)) refl
+  word_mod n = mod-mul-add (n / S.capacity) S.lap (slot_for S n) (omega (arith, slot_below n))
 
   pub word_inj : (n m : ℕ) → word S n ≡ word S m → n ≡ m
   word_inj n m e = cc (lap_split n, lap_split m, word_div n, word_div m, word_mod n, word_mod m)
@@ -83,11 +80,11 @@ module _ (S : Shape) (F : Fits S) where
   next_lap n = omega (arith, word_mod n)
 
   pub word_next : (w : Position) (n : ℕ) → w.0 ≡ word S n → (successor S w).0 ≡ word S (n + 1)
-  unfolding successor choice
+  unfolding successor
   word_next w n e = rw (e, index_word n) (go (ltb (slot_for S n + 1) S.capacity) refl)
     where
       go : (b : Bool) → ltb (slot_for S n + 1) S.capacity ≡ b →
-          (when b then at (word S n + 1) else at (word S n - word S n % S.lap + S.lap)).0 ≡ word S (n + 1)
+          (if b then at (word S n + 1) else at (word S n - word S n % S.lap + S.lap)).0 ≡ word S (n + 1)
       go true h =
           next_in_lap n
           ∙ sym (word_at (n + 1) (n / S.capacity) (slot_for S n + 1) (ltb-true _ _ h) (omega (arith, lap_split n)))

@@ -7,6 +7,7 @@ use native.Mathlib.Omega.{arith}
 use native.Mathlib.Decide.{ℕ_discrete}
 use lib.ListN.{get_or, length-set}
 use lib.Seq.{get_or-set_same, get_or-set_other}
+use Rattle.std.specs.Prelude.{Some}
 use Rattle.channel.specs.Position.{at, index_of}
 use Rattle.channel.specs.PositionBounds.{Fits}
 use Rattle.array.specs.Array.{with_tail, with_message, with_stamp}
@@ -93,7 +94,7 @@ module _ (r : Record) (h : Past) (t : ℕ) (F : Fits r.shape) (C : CoreNow r h t
           ap (λ i. message_in (with_message s (index_of S w) m) i) (sym index)
           ∙ get_or-set_same s.messages (index_of S w) m 0 (omega (arith, inside, C.messages))
 
-    pub store_message : (m : ℕ) → Change r h t (StoreMessage (index_of S w) m)
+    pub store_message : (m : ℕ) → Change r h t (Some (StoreMessage (index_of S w) m))
     store_message m =
         record {
           core = message_core m c.took C.order C.untaken;
@@ -103,7 +104,7 @@ module _ (r : Record) (h : Past) (t : ℕ) (F : Fits r.shape) (C : CoreNow r h t
 
     -- Another stamp in it, which opens it or fills it.
     pub store_stamp : (v : Position) → (stamp_in (with_stamp s (index_of S w) v) (slot_for S a.n) ≡ v.0 →
-        Slot S (with_stamp s (index_of S w) v) c (slot_for S a.n)) → Change r h t (StoreStamp (index_of S w) v)
+        Slot S (with_stamp s (index_of S w) v) c (slot_for S a.n)) → Change r h t (Some (StoreStamp (index_of S w) v))
     store_stamp v new =
         record {
           core =
@@ -173,7 +174,7 @@ module _ (r : Record) (h : Past) (t : ℕ) (F : Fits r.shape) (C : CoreNow r h t
     take_order n (no q) (inl o) = inl (took_other n q ∙ o)
     take_order n (no q) (inr o) = inr (o.0, took_other n q ∙ o.1)
 
-    pub take_message : Change r h t (TakeMessage (index_of S w))
+    pub take_message : Change r h t (Some (TakeMessage (index_of S w)))
     take_message =
         record {
           core =
@@ -185,7 +186,7 @@ module _ (r : Record) (h : Past) (t : ℕ) (F : Fits r.shape) (C : CoreNow r h t
           adds = adds_none c took (h.calls t);
         }
 
-  pub mark_tail : (v : Position) → Tail S v c.sends → Change r h t (MarkTail v)
+  pub mark_tail : (v : Position) → Tail S v c.sends → Change r h t (Some (MarkTail v))
   mark_tail v e =
       record {
         core =

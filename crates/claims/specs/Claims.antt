@@ -1,8 +1,8 @@
 -- What a history has claimed on an array, read off its accepted calls.
-use Rattle.std.specs.Prelude.{ℕ, ◌+◌, ◌-◌, List, [], ◌∷◌, get_or}
+use Rattle.std.specs.Prelude.{Option, Some, None, ℕ, ◌+◌, ◌-◌, List, [], ◌∷◌, get_or}
 use Rattle.array.specs.Array.{outcome_of}
 use Rattle.array.specs.declared.outcome.ArrayEffect.{ArrayEffect}
-use Rattle.array.specs.declared.outcome.ArrayEffect.TheVariants.{Nothing, ClaimSend, ClaimReceive, StoreMessage, TakeMessage, StoreStamp, MarkTail}
+use Rattle.array.specs.declared.outcome.ArrayEffect.TheVariants.{ClaimSend, ClaimReceive, StoreMessage, TakeMessage, StoreStamp, MarkTail}
 use Rattle.schedule.specs.Record.{place_of}
 use Rattle.places.specs.Begin.{code_of, carried_by}
 use Rattle.schedule.specs.History.{Act, begins, steps, fails, advances, takes, Moment, reached, updated}
@@ -84,14 +84,17 @@ module _ (r : Record) (c : Claims) (a : Call) where
         took = updated c.took (newest a) (m ∷ c.took (newest a));
       }
 
-  abbrev pub made_by : ArrayEffect → Claims × Call
-  made_by Nothing = (c, a)
-  made_by (ClaimSend w) = claimed_send
-  made_by (ClaimReceive w) = claimed_receive
-  made_by (StoreMessage i m) = (c, a)
-  made_by (TakeMessage i) = (took_message (get_or r.array.messages i 0), a)
-  made_by (StoreStamp i w) = (c, a)
-  made_by (MarkTail w) = (c, a)
+  abbrev pub made : ArrayEffect → Claims × Call
+  made (ClaimSend w) = claimed_send
+  made (ClaimReceive w) = claimed_receive
+  made (StoreMessage i m) = (c, a)
+  made (TakeMessage i) = (took_message (get_or r.array.messages i 0), a)
+  made (StoreStamp i w) = (c, a)
+  made (MarkTail w) = (c, a)
+
+  abbrev pub made_by : Option ArrayEffect → Claims × Call
+  made_by None = (c, a)
+  made_by (Some e) = made e
 
   abbrev pub made_at : Place → Claims × Call
   made_at Idle = (c, a)

@@ -1,55 +1,38 @@
--- Demand 2 over any schedule: for every capacity, number of threads and history from a fresh array.
-use Rattle.std.specs.Prelude.{ℕ, ◌+◌, ◌<◌, ◌≤◌, ◌≡◌, ◌⊎◌, ◌≢◌, List, [], ◌∷◌}
+-- The claims law over any schedule: for every capacity, number of threads and history from a fresh array.
+use Rattle.std.specs.Prelude.{ℕ, ◌+◌, ◌<◌, ◌≤◌, ◌≡◌, ◌≢◌, List, [], ◌∷◌}
+use Rattle.std.specs.List.{Any}
 use Rattle.channel.specs.declared.answer.Answer.{Answer}
 use Rattle.channel.specs.declared.answer.Answer.TheVariants.{Sent, Received, Full, Empty, Disconnected, Timeout, Number, Yes, No}
 use Rattle.schedule.specs.Record.{place_of, accepted_as}
 use Rattle.schedule.specs.Making.{made_array}
 use Rattle.schedule.specs.History.{Act, Moment}
 use Rattle.places.specs.declared.begin.Code.{Code}
-use Rattle.places.specs.declared.begin.Code.TheVariants.{Unknown, TrySend, TryReceive, Send, Receive, Len, IsEmpty, IsFull, IsDisconnected, Disconnect}
+use Rattle.places.specs.declared.begin.Code.TheVariants.{IsEmpty, IsFull}
 use Rattle.places.specs.declared.place.Place.TheVariants.{Done}
 use Rattle.schedule.specs.declared.record.Record.{Record}
 use Rattle.claims.specs.Claims.{Claims, Call, Past, moment_after}
 
--- True of one of these counts.
-abbrev pub Sometime : (ℕ → Type 0) → List ℕ → Type 0
-Sometime P [] = ⊥
-Sometime P (n ∷ l) = P n ⊎ Sometime P l
-
--- What each answer says of the counts at the moments of its call.
+-- What each answer says of the counts at the moments of its call: that one of them was so. Of what is answered yes or no, only
+-- `is_empty` and `is_full` ask about them.
 module _ (capacity : ℕ) (counts : List ℕ) where
   abbrev pub YesTo : Code → Type 0
-  YesTo Unknown = Unit
-  YesTo TrySend = Unit
-  YesTo TryReceive = Unit
-  YesTo Send = Unit
-  YesTo Receive = Unit
-  YesTo Len = Unit
-  YesTo IsEmpty = Sometime (λ n. n ≡ 0) counts
-  YesTo IsFull = Sometime (λ n. n ≡ capacity) counts
-  YesTo IsDisconnected = Unit
-  YesTo Disconnect = Unit
+  YesTo IsEmpty = Any (λ n. n ≡ 0) counts
+  YesTo IsFull = Any (λ n. n ≡ capacity) counts
+  YesTo _ = Unit
 
   abbrev pub NoTo : Code → Type 0
-  NoTo Unknown = Unit
-  NoTo TrySend = Unit
-  NoTo TryReceive = Unit
-  NoTo Send = Unit
-  NoTo Receive = Unit
-  NoTo Len = Unit
-  NoTo IsEmpty = Sometime (λ n. n ≢ 0) counts
-  NoTo IsFull = Sometime (λ n. n ≢ capacity) counts
-  NoTo IsDisconnected = Unit
-  NoTo Disconnect = Unit
+  NoTo IsEmpty = Any (λ n. n ≢ 0) counts
+  NoTo IsFull = Any (λ n. n ≢ capacity) counts
+  NoTo _ = Unit
 
   abbrev pub TrueOf : Code → Answer → Type 0
   TrueOf k Sent = Unit
   TrueOf k (Received m) = Unit
-  TrueOf k (Full m) = Sometime (λ n. n ≡ capacity) counts
-  TrueOf k Empty = Sometime (λ n. n ≡ 0) counts
+  TrueOf k (Full m) = Any (λ n. n ≡ capacity) counts
+  TrueOf k Empty = Any (λ n. n ≡ 0) counts
   TrueOf k (Disconnected m) = Unit
   TrueOf k (Timeout m) = Unit
-  TrueOf k (Number i) = Sometime (λ n. n ≡ i) counts
+  TrueOf k (Number i) = Any (λ n. n ≡ i) counts
   TrueOf k Yes = YesTo k
   TrueOf k No = NoTo k
 

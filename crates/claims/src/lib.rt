@@ -1,5 +1,5 @@
-//! Demand 2 over any schedule on an array: laws only, the promise of an empty function.
-#![tactic(auto, unfolding(waker::specs::Choice::choice))]
+//! The claims law over any schedule on an array: laws only, the promise of an empty function.
+#![tactic(auto)]
 
 ghost use Rattle.claims.specs.Statement.{ClaimLaw};
 

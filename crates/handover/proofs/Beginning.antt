@@ -1,6 +1,6 @@
 -- Begin and take, and a call that leaves all where they are, keep what holds at all places.
 use Prim.Native.Nat.{ℕ, ◌<◌, ◌≤◌}
-use mathlib.Core.Path.{◌≡◌, refl, sym, ap, ◌∙◌}
+use mathlib.Core.Path.{◌≡◌, refl, sym, ap}
 use mathlib.Core.Bool.{true, false}
 use mathlib.Core.Logic.{◌≢◌}
 use native.Mathlib.Omega.{arith}
@@ -23,7 +23,6 @@ use Rattle.places.specs.declared.begin.Start.TheVariants.{At}
 use Rattle.places.specs.declared.place.Place.{Place}
 use Rattle.places.specs.declared.place.Place.TheVariants.{Idle, Done}
 use Rattle.schedule.specs.declared.record.Record.{Record}
-use Rattle.grown.proofs.Tests.{clash}
 use Rattle.grown.proofs.Starts.{at_place, never, begun_at}
 use Rattle.grown.proofs.Scene.{here}
 use Rattle.handover.specs.Meetings.{Past, begun_call}
@@ -42,7 +41,7 @@ module _ (M : Moment Past) (I : Inv M) where
     N = record { now = with_thread M.now t.0 q; past = h }
 
     unlike : (σ : Side) (v : ℕ) → awaits σ (place_of M.now v) ≡ true → v ≢ t.0
-    unlike σ v w s = clash (sym (rw (s, at) at w) ∙ free σ)
+    unlike σ v w s = cc (free σ)
 
     moves : ((u : ℕ) → u ≢ t.0 → Same M N a u) → ((u : ℕ) → u ≢ t.0 → Load M N a u) → AtPlace N t.0 q → Kept M N a
     moves same load own =

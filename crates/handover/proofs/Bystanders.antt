@@ -13,6 +13,7 @@ use Rattle.waker.specs.declared.context.Context.{Context}
 use Rattle.waker.specs.declared.context.Selected.{Selected}
 use Rattle.waker.specs.declared.wakers.Side.{Side}
 use Rattle.waker.proofs.WakerLaws.{entries_queue_of}
+use Rattle.std.specs.Prelude.{Option, Some, None}
 use Rattle.zero.specs.Zero.{packet_at, with_packet, applied}
 use Rattle.zero.specs.ZeroSteps.{side_of}
 use Rattle.zero.specs.declared.Packet.{Packet}
@@ -22,7 +23,7 @@ use Rattle.zero.specs.declared.call.ZeroCall.{ZeroCall}
 use Rattle.zero.specs.declared.call.ZeroCall.TheVariants.{Ask}
 use Rattle.zero.specs.declared.outcome.ZeroEffect.{ZeroEffect}
 use Rattle.zero.specs.declared.outcome.ZeroEffect.TheVariants as effect
-use Rattle.zero.specs.declared.outcome.ZeroOutcome.{ZeroOutcome}
+use Rattle.zero.specs.ZeroOutcome.{ZeroOutcome}
 use Rattle.schedule.specs.Record.{place_of, place_after_zero}
 use Rattle.forms.specs.FormWaits.{times_in}
 use Rattle.schedule.specs.History.{steps, Moment, updated}
@@ -37,18 +38,18 @@ use Rattle.handover.proofs.Moments.{step_to, elsewhere}
 use Rattle.handover.proofs.Touch.{Cut, Word, keeps, cuts, Same}
 
 -- An effect at k touches no thread but the caller and, if it has a partner, that; only the step that disconnects cuts.
-abbrev pub Spares : ZeroCall → ZeroEffect → ℕ → Type 0
-Spares k effect.Nothing u = Unit
-Spares k (effect.Pick σ v) u = u ≢ v.0
-Spares k (effect.Join o) u = Unit
-Spares k (effect.PutMessage v m) u = u ≢ v.0
-Spares k (effect.TakeMessage v) u = u ≢ v.0
-Spares k (effect.SetReady v) u = u ≢ v.0
-Spares k (effect.Abort σ) u = Unit
-Spares k (effect.GiveUp σ) u = Unit
-Spares k (effect.Leave σ) u = Unit
-Spares k effect.Clear u = Unit
-Spares k effect.Disconnect u = k ≡ Ask Disconnect
+abbrev pub Spares : ZeroCall → Option ZeroEffect → ℕ → Type 0
+Spares k None u = Unit
+Spares k (Some (effect.Pick σ v)) u = u ≢ v.0
+Spares k (Some (effect.Join o)) u = Unit
+Spares k (Some (effect.PutMessage v m)) u = u ≢ v.0
+Spares k (Some (effect.TakeMessage v)) u = u ≢ v.0
+Spares k (Some (effect.SetReady v)) u = u ≢ v.0
+Spares k (Some (effect.Abort σ)) u = Unit
+Spares k (Some (effect.GiveUp σ)) u = Unit
+Spares k (Some (effect.Leave σ)) u = Unit
+Spares k (Some effect.Clear) u = Unit
+Spares k (Some effect.Disconnect) u = k ≡ Ask Disconnect
 
 module _ (M : Moment Past) (t : Thread) (k : ZeroCall) (at : place_of M.now t.0 ≡ Zero k) (u : ℕ) (apart : u ≢ t.0) where
   abbrev z : Memory
@@ -75,9 +76,8 @@ module _ (M : Moment Past) (t : Thread) (k : ZeroCall) (at : place_of M.now t.0 
   plainly =
       record { code = refl; carried = refl; deadline = refl; entries = refl; opposed = refl; pairs = refl; since = mine _ _ }
 
-  recalls : (e : ZeroEffect) → Spares k e u → Recalls (brought M.now h t.0 k e)
-  recalls effect.Nothing s = plainly
-  recalls (effect.Pick σ v) s =
+  recalls : (e : Option ZeroEffect) → Spares k e u → Recalls (brought M.now h t.0 k e)
+  recalls (Some (effect.Pick σ v)) s =
       record {
         code = refl;
         carried = refl;
@@ -87,11 +87,9 @@ module _ (M : Moment Past) (t : Thread) (k : ZeroCall) (at : place_of M.now t.0 
         pairs = mine _ _ ∙ updated_else _ v.0 _ u s;
         since = mine _ _;
       }
-  recalls (effect.Join o) s =
+  recalls (Some (effect.Join o)) s =
       record { code = refl; carried = refl; deadline = refl; entries = mine _ _; opposed = mine _ _; pairs = refl; since = refl }
-  recalls (effect.PutMessage v m) s = plainly
-  recalls (effect.TakeMessage v) s = plainly
-  recalls (effect.SetReady v) s =
+  recalls (Some (effect.SetReady v)) s =
       record {
         code = refl;
         carried = refl;
@@ -101,11 +99,7 @@ module _ (M : Moment Past) (t : Thread) (k : ZeroCall) (at : place_of M.now t.0 
         pairs = refl;
         since = updated_else _ v.0 _ u s;
       }
-  recalls (effect.Abort σ) s = plainly
-  recalls (effect.GiveUp σ) s = plainly
-  recalls (effect.Leave σ) s = plainly
-  recalls effect.Clear s = plainly
-  recalls effect.Disconnect s = plainly
+  recalls _ s = plainly
 
   -- What the memory has of it: at most as many entries stand before it.
   abbrev Fewer : Side → List Thread → Type 0
@@ -140,38 +134,38 @@ module _ (M : Moment Past) (t : Thread) (k : ZeroCall) (at : place_of M.now t.0 
   turned s (stays e) = keeps e
   turned s (turns e f l) = cuts e f (record { who = t; does = refl; place = at ∙ ap Zero s; flag = refl })
 
-  leaves : (e : ZeroEffect) → Spares k e u → Leaves (applied z t e)
-  leaves effect.Nothing s = record { word = keeps refl; packet = refl; flag = λ f. f; ahead = as_many }
-  leaves (effect.Pick σ v) s =
+  leaves : (e : Option ZeroEffect) → Spares k e u → Leaves (applied z t e)
+  leaves None s = record { word = keeps refl; packet = refl; flag = λ f. f; ahead = as_many }
+  leaves (Some (effect.Pick σ v)) s =
       record {
         word = word_apart _ v _ s (same_words z.wakers σ _);
         packet = refl;
         flag = λ f. f;
         ahead = fewer_on σ (without v (listed z.wakers σ)) z.wakers.contexts (λ l. ahead_left v u _ s);
       }
-  leaves (effect.Join o) s =
+  leaves (Some (effect.Join o)) s =
       record {
         word = word_apart _ t _ apart (same_words z.wakers (side_of o) _);
         packet = packet_else z t _ u apart;
         flag = λ f. f;
         ahead = fewer_on (side_of o) (listed z.wakers (side_of o) ++ (t ∷ [])) z.wakers.contexts (λ l. omega (arith, ahead_joined_other t u _ l));
       }
-  leaves (effect.PutMessage v m) s = packet_only v _ s
-  leaves (effect.TakeMessage v) s = packet_only v _ s
-  leaves (effect.SetReady v) s = packet_only v _ s
-  leaves (effect.Abort σ) s =
+  leaves (Some (effect.PutMessage v m)) s = packet_only v _ s
+  leaves (Some (effect.TakeMessage v)) s = packet_only v _ s
+  leaves (Some (effect.SetReady v)) s = packet_only v _ s
+  leaves (Some (effect.Abort σ)) s =
       record { word = word_apart _ t _ apart refl; packet = packet_else z t _ u apart; flag = λ f. f; ahead = still z.wakers.contexts }
-  leaves (effect.GiveUp σ) s = packet_only t _ apart
-  leaves (effect.Leave σ) s =
+  leaves (Some (effect.GiveUp σ)) s = packet_only t _ apart
+  leaves (Some (effect.Leave σ)) s =
       record {
         word = word_apart _ t _ apart (same_words z.wakers σ _);
         packet = packet_else z t _ u apart;
         flag = λ f. f;
         ahead = fewer_on σ (without t (listed z.wakers σ)) z.wakers.contexts (λ l. ahead_left t u _ apart);
       }
-  leaves effect.Clear s =
+  leaves (Some effect.Clear) s =
       record { word = word_apart _ t _ apart refl; packet = packet_else z t _ u apart; flag = λ f. f; ahead = still z.wakers.contexts }
-  leaves effect.Disconnect s =
+  leaves (Some effect.Disconnect) s =
       record { word = turned s (turned_both z.wakers u); packet = refl; flag = λ f. refl; ahead = still z.wakers.contexts }
 
   -- So a thread that the outcome's effect spares stays as it is,

@@ -7,26 +7,24 @@ use mathlib.Core.List.{[], ◌∷◌}
 use native.Mathlib.Omega.{arith}
 use lib.Dec.{leb}
 use borrow.Author.Tests.{leb-true}
-use Rattle.waker.specs.Choice.{choice}
 use Rattle.waker.specs.Context.{try_selected}
 use Rattle.waker.specs.declared.context.Thread.{Thread}
 use Rattle.waker.specs.declared.context.Selected.{Selected}
 use Rattle.waker.specs.declared.context.Selected.TheVariants as word
 use Rattle.waker.specs.declared.wakers.Side.{Side}
 use Rattle.waker.specs.declared.wakers.Side.TheVariants.{Sender, Receiver}
-use Rattle.zero.specs.ZeroOutcome.{writes, goes}
+use Rattle.channel.specs.Outcome.{writes, goes}
 use Rattle.zero.specs.ZeroSteps.{wait_step, leave_step, left_for, ready_wait_step, met_by, back_to}
 use Rattle.zero.specs.Zero.{kept_at_leave}
 use Rattle.channel.specs.declared.answer.Tick.{Tick}
 use Rattle.zero.specs.declared.Packet.{Packet}
 use Rattle.zero.specs.declared.call.ZeroCall.TheVariants.{Wait, ReadyWait, Leave}
 use Rattle.zero.specs.declared.outcome.ZeroEffect.TheVariants as effect
-use Rattle.zero.specs.declared.outcome.ZeroNext.TheVariants.{Goes, Ends}
-use Rattle.zero.specs.declared.outcome.ZeroOutcome.{ZeroOutcome}
+use Rattle.channel.specs.declared.outcome.Next.TheVariants.{Goes, Ends}
+use Rattle.zero.specs.ZeroOutcome.{ZeroOutcome}
 use Rattle.schedule.specs.Record.{place_of}
 use Rattle.schedule.specs.History.{Moment}
 use Rattle.places.specs.declared.place.Place.TheVariants.{Zero}
-use Rattle.grown.proofs.Tests.{clash}
 use Rattle.grown.proofs.Departures.{unlike}
 use Rattle.grown.proofs.Scene.{Scene, my_word, my_packet}
 use Rattle.handover.specs.Meetings.{Past, wait_code, pair_of, word_at, packet_of}
@@ -97,7 +95,6 @@ module _ (M : Moment Past) (I : Inv M) (t : Thread) (there : t.0 < M.now.count) 
         C = rw w at mine.1
 
     waits_on_still : word_at M.now t.0 ≡ word.Waiting → After M I t there (Wait σ d) at (goes (Wait σ d))
-    unfolding choice
     waits_on_still w =
         quiet M I t there (Wait σ d) at (Goes (Wait σ d)) (λ u τ c n W. refl)
         (mine.0, rw w (record { unpaired = W.unpaired; holding = W.holding; bound = W.bound }))
@@ -144,7 +141,7 @@ module _ (M : Moment Past) (I : Inv M) (t : Thread) (there : t.0 < M.now.count) 
             either (After M I t there (ReadyWait σ) at) (packet_of M.now t.0).ready
             (λ b.
             alone M I t there (ReadyWait σ) at (writes effect.Clear (Ends (met_by σ (packet_of M.now t.0).message)))
-            (λ u. tt) (λ u τ c n W. refl) (λ τ a p r. absurd (clash (sym b ∙ r))) (met σ u m c C b))
+            (λ u. tt) (λ u τ c n W. refl) (λ τ a p r. cc (b, r)) (met σ u m c C b))
             (λ b.
             quiet M I t there (ReadyWait σ) at (Goes (ReadyWait σ)) (λ u τ c n W. refl) (
               u,
@@ -153,7 +150,7 @@ module _ (M : Moment Past) (I : Inv M) (t : Thread) (there : t.0 < M.now.count) 
               record {
                 pair = C.pair;
                 own = C.own;
-                since = λ r. absurd (clash (sym r ∙ b));
+                since = λ r. cc (r, b);
                 message = C.message;
               },
             ))

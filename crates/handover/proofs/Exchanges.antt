@@ -1,7 +1,7 @@
 -- No thread of a rendezvous stands at a weak exchange, so fail is refused.
 use mathlib.Core.Path.{◌≡◌, refl}
 use Rattle.schedule.specs.Record.{refused_with}
-use Rattle.schedule.specs.History.{Act, begins, steps, fails, advances, takes, act_on, after}
+use Rattle.schedule.specs.History.{Act, fails, act_on, after}
 use Rattle.schedule.specs.declared.record.Record.{Record}
 use Rattle.schedule.specs.declared.record.Replied.{Replied}
 use Rattle.bounds.specs.declared.refusal.Refusal.{Refusal}
@@ -14,18 +14,12 @@ use Rattle.handover.specs.Statement.{NoneFails}
 module _ (r : Record) (K : KeptZero r) where
   -- What is asked of a reply: nothing, unless it is fail's.
   abbrev Asked : Act → Replied → Type 0
-  Asked (begins t c m d) y = Unit
-  Asked (steps t) y = Unit
   Asked (fails t) y = (x : Refusal) × (y ≡ refused_with r x)
-  Asked (advances n) y = Unit
-  Asked (takes t) y = Unit
+  Asked _ y = Unit
 
   refused : (a : Act) (x : Refusal) → Asked a (refused_with r x)
-  refused (begins t c m d) x = tt
-  refused (steps t) x = tt
   refused (fails t) x = (x, refl)
-  refused (advances n) x = tt
-  refused (takes t) x = tt
+  refused _ x = tt
 
   answered : (a : Act) → Asked a (act_on r a)
   answered =

@@ -13,20 +13,19 @@ use Rattle.waker.specs.declared.context.Thread.{Thread}
 use Rattle.waker.specs.declared.context.Selected.{Selected}
 use Rattle.waker.specs.declared.context.Selected.TheVariants as word
 use Rattle.waker.specs.declared.wakers.Side.{Side}
-use Rattle.zero.specs.ZeroOutcome.{writes, goes}
+use Rattle.channel.specs.Outcome.{writes, goes}
 use Rattle.zero.specs.ZeroSteps.{side_of, wait_step}
 use Rattle.channel.specs.declared.answer.Tick.{Tick}
 use Rattle.zero.specs.declared.Zero.{Zero as Memory}
 use Rattle.zero.specs.declared.call.Offer.{Offer}
 use Rattle.zero.specs.declared.call.ZeroCall.TheVariants.{Wait, Leave}
 use Rattle.zero.specs.declared.outcome.ZeroEffect.TheVariants as effect
-use Rattle.zero.specs.declared.outcome.ZeroNext.TheVariants.{Goes}
-use Rattle.zero.specs.declared.outcome.ZeroOutcome.{ZeroOutcome}
+use Rattle.channel.specs.declared.outcome.Next.TheVariants.{Goes}
+use Rattle.zero.specs.ZeroOutcome.{ZeroOutcome}
 use Rattle.schedule.specs.Record.{place_of}
 use Rattle.forms.specs.FormWaits.{awaits, partner_of, times_in}
-use Rattle.schedule.specs.History.{Act, begins, steps, fails, advances, takes, Moment, next}
+use Rattle.schedule.specs.History.{Act, steps, Moment, next}
 use Rattle.forms.specs.declared.waits.Partner.TheVariants.{Of}
-use Rattle.places.specs.declared.place.Place.TheVariants.{Zero}
 use Rattle.grown.proofs.Departures.{unlike}
 use Rattle.grown.proofs.Scene.{my_word}
 use Rattle.grown.proofs.ZeroKept.{KeptZero}
@@ -60,9 +59,7 @@ module _ (M : Moment Past) (I : Inv M) where
     opposite : (o : Offer) → 0 < times_in t (queue_at M.now (other_side (side_of o))) → side_of o ≡ other_side σ
     opposite o l =
         let (c, U) = waits_there M I t (other_side (side_of o)) l W.word in
-        let e : Zero (Wait (other_side (side_of o)) c) ≡ Zero (Wait σ d) = sym U.place ∙ W.place in
-        let f : other_side (side_of o) ≡ σ = cc in
-        sym (twice (side_of o)) ∙ ap other_side f
+        cc (twice (side_of o))
 
     other : (a : Act) (N : Moment Past) → Touch M N a t → GoesOn N a
     other a N (spares S) =
@@ -116,17 +113,14 @@ module _ (M : Moment Past) (I : Inv M) where
     others a n = other a (next rule M a) ((every_call M I a).others t σ runs n)
 
     pub goes_on_here : (a : Act) → GoesOn (next rule M a) a
-    goes_on_here (begins u c m e) = others (begins u c m e) (λ g. let z : ◌≡◌ {A = ℕ} 0 1 = cc in omega arith)
-    goes_on_here (fails u) = others (fails u) (λ g. let z : ◌≡◌ {A = ℕ} 0 1 = cc in omega arith)
-    goes_on_here (advances e) = others (advances e) (λ g. let z : ◌≡◌ {A = ℕ} 0 1 = cc in omega arith)
-    goes_on_here (takes u) = others (takes u) (λ g. let z : ◌≡◌ {A = ℕ} 0 1 = cc in omega arith)
     goes_on_here (steps u) = go (ℕ_discrete u.0 t)
       where
         go : Dec (u.0 ≡ t) → GoesOn (next rule M (steps u)) (steps u)
         go (yes e) =
             subst (λ (w : Thread). GoesOn (next rule M (steps w)) (steps w)) (ap thread (sym e)) own
         go (no n) =
-            others (steps u) (λ g. let h : u ≡ thread t = cc in n (ap (λ (w : Thread). w.0) h))
+            others (steps u) (λ g. n (cc))
+    goes_on_here a = others a (λ g. cc)
 
   -- A picked waiter is touched by its own step and its partner's alone.
   pub alone : (t : ℕ) (σ : Side) → awaits σ (place_of M.now t) ≡ true → word_at M.now t ≡ word.Picked → (a : Act) →

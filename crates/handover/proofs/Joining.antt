@@ -5,16 +5,16 @@ use mathlib.Core.Bool.{Bool, true, false}
 use mathlib.Core.List.{List, [], ◌∷◌, ◌++◌}
 use native.Mathlib.Omega.{arith}
 use lib.ListN.{length}
-use Rattle.waker.specs.Choice.{choice, when◌then◌else◌}
+use Rattle.std.specs.Prelude.{◌&&◌}
 use Rattle.waker.specs.Waker.{oldest, queue_of}
 use Rattle.waker.specs.Wakers.{other_side}
 use Rattle.waker.specs.declared.context.Thread.{Thread}
 use Rattle.waker.specs.declared.context.Selected.TheVariants as word
-use Rattle.waker.specs.declared.waker.Found.TheVariants.{Nobody}
+use Rattle.std.specs.Prelude.{None}
 use Rattle.waker.specs.declared.wakers.Side.{Side}
 use Rattle.waker.specs.declared.wakers.Wakers.{Wakers}
 use Rattle.waker.proofs.WakerLaws.{entries_queue_of}
-use Rattle.zero.specs.ZeroOutcome.{writes}
+use Rattle.channel.specs.Outcome.{writes}
 use Rattle.zero.specs.ZeroSteps.{side_of, message_of, nobody_for, alone_step, first_step}
 use Rattle.zero.specs.Zero.{packet}
 use Rattle.channel.specs.declared.answer.Tick.{Tick}
@@ -26,8 +26,8 @@ use Rattle.zero.specs.declared.call.Limit.{Limit}
 use Rattle.zero.specs.declared.call.Limit.TheVariants.{Try, Until}
 use Rattle.zero.specs.declared.call.ZeroCall.TheVariants.{First, Wait}
 use Rattle.zero.specs.declared.outcome.ZeroEffect.TheVariants as effect
-use Rattle.zero.specs.declared.outcome.ZeroNext.TheVariants.{Goes, Ends}
-use Rattle.zero.specs.declared.outcome.ZeroOutcome.{ZeroOutcome}
+use Rattle.channel.specs.declared.outcome.Next.TheVariants.{Goes, Ends}
+use Rattle.zero.specs.ZeroOutcome.{ZeroOutcome}
 use Rattle.schedule.specs.Record.{place_of}
 use Rattle.schedule.specs.History.{Moment}
 use Rattle.forms.specs.FormWaits.{same_side, times_in}
@@ -84,13 +84,12 @@ module _ (M : Moment Past) (I : Inv M) (t : Thread) (there : t.0 < M.now.count) 
       q = queue_at M.now (side_of o) ++ (t ∷ [])
 
 module _ (M : Moment Past) (I : Inv M) (t : Thread) (there : t.0 < M.now.count) (o : Offer)
-    (f : oldest t M.now.zero.wakers.contexts (queue_at M.now (other_side (side_of o))) ≡ Nobody) where
+    (f : oldest t M.now.zero.wakers.contexts (queue_at M.now (other_side (side_of o))) ≡ None) where
   -- No waiter of the other side counts the step: it would have been found.
   flat : (l : Limit) (at : place_of M.now t.0 ≡ Zero (First o l)) → Flat M I t there (First o l) at
-  unfolding choice
   flat l at u σ d n W = go (same_side (other_side (side_of o)) σ) refl
     where
-      go : (b : Bool) → same_side (other_side (side_of o)) σ ≡ b → (when b then true else false) ≡ false
+      go : (b : Bool) → same_side (other_side (side_of o)) σ ≡ b → (b && true) ≡ false
       go true s =
           let q : 0 < times_in u (queue_at M.now (other_side (side_of o))) =
           rw (one_side (other_side (side_of o)) σ s) (omega (arith, queued M I u σ d W)) in
@@ -140,7 +139,7 @@ module _ (M : Moment Past) (I : Inv M) (t : Thread) (there : t.0 < M.now.count) 
 
   -- Nobody found: it ends Disconnected if flagged, Full or Empty if it may not wait, and else joins its side's queue.
   pub nobody_step : (l : Limit) (at : place_of M.now t.0 ≡ Zero (First o l)) →
-      After M I t there (First o l) at (first_step o l Nobody M.now.zero.disconnected)
+      After M I t there (First o l) at (first_step o l None M.now.zero.disconnected)
   nobody_step l at =
       either (After M I t there (First o l) at) M.now.zero.disconnected
       (λ b.

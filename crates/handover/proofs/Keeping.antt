@@ -5,24 +5,21 @@ use mathlib.Core.Bool.{true, false}
 use mathlib.Core.Logic.{◌≢◌}
 use native.Mathlib.Omega.{arith}
 use native.Mathlib.Decide.{ℕ_discrete}
-use Rattle.waker.specs.Choice.{choice}
 use Rattle.waker.specs.Context.{thread}
 use Rattle.waker.specs.declared.context.Thread.{Thread}
 use Rattle.waker.specs.declared.context.Selected.TheVariants as word
 use Rattle.waker.specs.declared.wakers.Side.{Side}
-use Rattle.zero.specs.ZeroOutcome.{writes}
+use Rattle.std.specs.Prelude.{None}
 use Rattle.channel.specs.declared.answer.Tick.{Tick}
 use Rattle.zero.specs.declared.call.ZeroCall.{ZeroCall}
 use Rattle.zero.specs.declared.call.ZeroCall.TheVariants.{Wait}
-use Rattle.zero.specs.declared.outcome.ZeroNext.{ZeroNext}
-use Rattle.zero.specs.declared.outcome.ZeroEffect.TheVariants.{Nothing}
-use Rattle.zero.specs.declared.outcome.ZeroOutcome.{ZeroOutcome}
+use Rattle.channel.specs.declared.outcome.Next.{Next}
+use Rattle.zero.specs.ZeroOutcome.{ZeroOutcome}
 use Rattle.schedule.specs.Record.{place_of, place_after_zero}
 use Rattle.schedule.specs.History.{steps, Moment}
 use Rattle.forms.specs.FormWaits.{awaits, partner_of}
 use Rattle.forms.specs.declared.waits.Partner.TheVariants.{Of}
 use Rattle.places.specs.declared.place.Place.TheVariants.{Zero}
-use Rattle.grown.proofs.Tests.{clash}
 use Rattle.handover.specs.Meetings.{Past, opposes, word_at, packet_of}
 use Rattle.handover.specs.Statement.{Waits}
 use Rattle.handover.proofs.Inv.{Chosen, AtPlace, Inv}
@@ -60,7 +57,6 @@ module _ (M : Moment Past) (I : Inv M) (t : Thread) (there : t.0 < M.now.count) 
 
     -- A step that does not count for u leaves its load.
     pub unopposed : (u : ℕ) → u ≢ t.0 → Spares k o.effect u → Flat → Load M N (steps t) u
-    unfolding choice
     unopposed u apart spared flat σ d W =
         let f : N.past.opposed u ≡ M.past.opposed u =
         opposed_now M t k at u apart o spared ∙ rw (W.place, W.word) (rw (flat u σ d apart W)) in
@@ -86,7 +82,7 @@ module _ (M : Moment Past) (I : Inv M) (t : Thread) (there : t.0 < M.now.count) 
 
     -- Nobody names t where it doesn't await.
     pub unnamed : ((σ : Side) → awaits σ (Zero k) ≡ false) → Calm
-    unnamed free σ a w r = absurd (clash (sym (rw at at a) ∙ free σ))
+    unnamed free σ a w r = cc (free σ)
 
     -- An effect that touches only t.
     pub alone : ((u : ℕ) → Spares k o.effect u) → Flat → Calm → AtPlace N t.0 (place_after_zero o.next) → After o
@@ -116,7 +112,7 @@ module _ (M : Moment Past) (I : Inv M) (t : Thread) (there : t.0 < M.now.count) 
           touches u n (no f) = spares (same M t k at u n o (spared u f))
 
   -- Nothing is written.
-  pub quiet : (n : ZeroNext) → Flat → AtPlace (step_to M t k (writes Nothing n)) t.0 (place_after_zero n) →
-      After (writes Nothing n)
+  pub quiet : (n : Next ZeroCall) → Flat → AtPlace (step_to M t k (record { next = n; effect = None })) t.0 (place_after_zero n) →
+      After (record { next = n; effect = None })
   quiet n flat own =
-      alone (writes Nothing n) (λ u. tt) flat (λ σ a w r. record { packet = refl; carried = refl; pairs = refl }) own
+      alone (record { next = n; effect = None }) (λ u. tt) flat (λ σ a w r. record { packet = refl; carried = refl; pairs = refl }) own

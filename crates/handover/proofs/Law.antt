@@ -1,4 +1,4 @@
--- Demand 3 at every moment that a history keeps.
+-- The law at every moment that a history keeps.
 use mathlib.Core.Path.{◌≡◌, refl}
 use mathlib.Core.Logic.{◌⊎◌, inl, inr}
 use Rattle.waker.specs.declared.context.Thread.{Thread}
@@ -6,7 +6,7 @@ use Rattle.waker.specs.declared.wakers.Side.{Side}
 use Rattle.waker.specs.declared.wakers.Side.TheVariants.{Sender}
 use Rattle.zero.specs.Zero.{packet_for}
 use Rattle.zero.specs.declared.call.ZeroCall.{ZeroCall}
-use Rattle.zero.specs.declared.call.ZeroCall.TheVariants.{First, Put, PutReady, Take, TakeReady, Wait, ReadyWait, Leave, Ask}
+use Rattle.zero.specs.declared.call.ZeroCall.TheVariants.{Take}
 use Rattle.forms.specs.FormWaits.{zero_partner}
 use Rattle.schedule.specs.History.{Moment}
 use Rattle.forms.specs.declared.waits.Partner.TheVariants.{Of}
@@ -19,15 +19,8 @@ use Rattle.handover.proofs.Meeting.{met, further, ends}
 use Rattle.handover.proofs.Fate.{goes_on_here, alone}
 
 loads : (u : Thread) (k : ZeroCall) → (packet_for u k ≡ u) ⊎ ((σ : Side) × (zero_partner k ≡ Of σ (packet_for u k)))
-loads u (First o l) = inl refl
-loads u (Put v m) = inl refl
-loads u (PutReady v) = inl refl
 loads u (Take v) = inr (Sender, refl)
-loads u (TakeReady v m) = inl refl
-loads u (Wait σ d) = inl refl
-loads u (ReadyWait σ) = inl refl
-loads u (Leave σ) = inl refl
-loads u (Ask q) = inl refl
+loads u _ = inl refl
 
 pub holds : (M : Moment Past) → Inv M → Holds M
 holds M I =

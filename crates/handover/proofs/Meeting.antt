@@ -1,6 +1,6 @@
 -- A pick's two calls: the further steps of the one that picked, and the last own steps of the one that was picked.
 use Prim.Native.Nat.{ℕ, suc, ◌<◌}
-use mathlib.Core.Path.{◌≡◌, refl, sym, ap, ◌∙◌}
+use mathlib.Core.Path.{◌≡◌, refl, ap, ◌∙◌}
 use mathlib.Core.Bool.{true, false}
 use mathlib.Core.List.{List, [], ◌∷◌}
 use native.Mathlib.Omega.{arith}
@@ -9,7 +9,7 @@ use Rattle.waker.specs.declared.context.Selected.{Selected}
 use Rattle.waker.specs.declared.context.Selected.TheVariants as word
 use Rattle.waker.specs.declared.wakers.Side.{Side}
 use Rattle.waker.specs.declared.wakers.Side.TheVariants.{Sender, Receiver}
-use Rattle.zero.specs.ZeroOutcome.{writes, goes}
+use Rattle.channel.specs.Outcome.{writes, goes}
 use Rattle.zero.specs.ZeroSteps.{met_by, wait_step}
 use Rattle.zero.specs.Zero.{packet_at, with_packet, outcome_of}
 use Rattle.channel.specs.declared.answer.Tick.{Tick}
@@ -17,17 +17,15 @@ use Rattle.channel.specs.declared.answer.Answer.TheVariants.{Received}
 use Rattle.zero.specs.declared.Packet.{Packet}
 use Rattle.zero.specs.declared.Zero.{Zero as Memory}
 use Rattle.zero.specs.declared.call.ZeroCall.{ZeroCall}
-use Rattle.zero.specs.declared.call.ZeroCall.TheVariants.{First, Put, PutReady, Take, TakeReady, Wait, ReadyWait, Leave, Ask}
+use Rattle.zero.specs.declared.call.ZeroCall.TheVariants.{Put, PutReady, Take, TakeReady, Wait, ReadyWait}
 use Rattle.zero.specs.declared.outcome.ZeroEffect.TheVariants as effect
-use Rattle.zero.specs.declared.outcome.ZeroNext.TheVariants.{Ends as Ended}
+use Rattle.channel.specs.declared.outcome.Next.TheVariants.{Ends as Ended}
 use Rattle.schedule.specs.Record.{place_of, place_after_zero}
 use Rattle.forms.specs.FormWaits.{is_picked, awaits, zero_partner, partner_of}
 use Rattle.schedule.specs.History.{steps, Moment, next, updated}
 use Rattle.forms.specs.declared.waits.Partner.TheVariants.{Of}
 use Rattle.places.specs.declared.place.Place.{Place}
-use Rattle.places.specs.declared.place.Place.TheVariants.{Idle, Array, Zero, Done}
-use Rattle.grown.proofs.Tests.{clash}
-use Rattle.grown.proofs.Places.{nobody}
+use Rattle.places.specs.declared.place.Place.TheVariants.{Zero, Done}
 use Rattle.grown.proofs.ZeroKept.{KeptZero}
 use Rattle.handover.specs.Meetings.{Past, Pair, pair_of, word_at, packet_of, rule}
 use Rattle.handover.specs.Statement.{Accepted, Met, Further, first, second, Ends, goes_on_here, answers}
@@ -60,18 +58,11 @@ module _ (M : Moment Past) (I : Inv M) where
 
   -- The pair of a call that names its partner.
   joint : (u : ℕ) (p : Place) (σ : Side) (v : Thread) → AtPlace M u p → partner_of p ≡ Of σ v → (m n : ℕ) × Joint M u σ v m n
-  joint u Idle σ v a e = absurd (nobody σ v e)
-  joint u (Array k) σ v a e = absurd a
-  joint u (Zero (First o l)) σ v a e = absurd (nobody σ v e)
   joint u (Zero (Put w m)) σ v a e = (m, 0, named (λ σ v. Joint M u σ v m 0) e a)
   joint u (Zero (PutReady w)) σ v a e = (_, 1, named (λ σ v. Joint M u σ v (packet_of M.now w.0).message 1) e a)
   joint u (Zero (Take w)) σ v a e = (_, 0, named (λ σ v. Joint M u σ v (packet_of M.now w.0).message 0) e a)
   joint u (Zero (TakeReady w m)) σ v a e = (m, 1, named (λ σ v. Joint M u σ v m 1) e a)
-  joint u (Zero (Wait τ d)) σ v a e = absurd (nobody σ v e)
-  joint u (Zero (ReadyWait τ)) σ v a e = absurd (nobody σ v e)
-  joint u (Zero (Leave τ)) σ v a e = absurd (nobody σ v e)
-  joint u (Zero (Ask q)) σ v a e = absurd (nobody σ v e)
-  joint u (Done a) σ v h e = absurd (nobody σ v e)
+  joint u _ σ v a e = cc
 
   pub met : (u : ℕ) (σ : Side) (v : Thread) → partner_of (place_of M.now u) ≡ Of σ v → (m : ℕ) × Met M u σ v m
   met u σ v e =
@@ -98,7 +89,6 @@ module _ (M : Moment Past) (I : Inv M) where
 
     further_at : (k : ZeroCall) (σ : Side) (v : Thread) → place_of M.now u.0 ≡ Zero k → AtCall M u.0 k →
         zero_partner k ≡ Of σ v → Met M u.0 σ v m → Makes k σ v
-    further_at (First o l) σ v at a e H = absurd (nobody σ v e)
     further_at (Put w x) σ v at a e H =
         named (Makes (Put w x)) e (first a.since (counted a.since) (ap partner_of (leads (Put w x))))
     further_at (PutReady w) σ v at a e H =
@@ -112,10 +102,7 @@ module _ (M : Moment Past) (I : Inv M) where
         (second a.since (marked Sender w _ (ap partner_of at))
         (updated_here M.past.since w.0 0)
         (leads (TakeReady w x) ∙ ap (λ (n : ℕ). Done (Received n)) (same_message H.hers a.mine)))
-    further_at (Wait τ d) σ v at a e H = absurd (nobody σ v e)
-    further_at (ReadyWait τ) σ v at a e H = absurd (nobody σ v e)
-    further_at (Leave τ) σ v at a e H = absurd (nobody σ v e)
-    further_at (Ask q) σ v at a e H = absurd (nobody σ v e)
+    further_at _ σ v at a e H = cc
 
   pub further : (u : Thread) (σ : Side) (v : Thread) (m : ℕ) → partner_of (place_of M.now u.0) ≡ Of σ v →
       Met M u.0 σ v m → Accepted M (steps u) → Further M (next rule M (steps u)) u.0 σ v m
@@ -123,11 +110,9 @@ module _ (M : Moment Past) (I : Inv M) where
     where
       go : (p : Place) → place_of M.now u.0 ≡ p → AtPlace M u.0 p → partner_of p ≡ Of σ v → Accepted M (steps u) →
           Further M (next rule M (steps u)) u.0 σ v m
-      go Idle at a e = absurd (nobody σ v e)
-      go (Array k) at a e = absurd a
       go (Zero k) at a e =
           step_done M u k at (λ N. Further M N u.0 σ v m) (λ there. further_at u m there k σ v at a e H)
-      go (Done x) at a e = absurd (nobody σ v e)
+      go _ at a e = cc
 
   -- A waiter with its mark set.
   module _ (t : Thread) (σ : Side) (ready : (packet_of M.now t.0).ready ≡ true) where
@@ -142,7 +127,7 @@ module _ (M : Moment Past) (I : Inv M) where
     module _ (there : t.0 < M.now.count) where
       waited : (d : Tick) (w : Selected) → place_of M.now t.0 ≡ Zero (Wait σ d) → word_at M.now t.0 ≡ w →
           AtWait M t.0 σ w → MetBy (step_to M t (Wait σ d) (wait_step σ d w M.now.clock))
-      waited d word.Waiting at i a = absurd (clash (sym ready ∙ unmarked d word.Waiting at i refl))
+      waited d word.Waiting at i a = cc (unmarked d word.Waiting at i refl)
       waited d word.Picked at i (u, m, C) = (
         u,
         m,
@@ -151,7 +136,7 @@ module _ (M : Moment Past) (I : Inv M) where
             (stands_at M K t there (Wait σ d) (goes (ReadyWait σ))),
       )
       waited d word.Aborted at i a = absurd a
-      waited d word.Disconnected at i a = absurd (clash (sym ready ∙ unmarked d word.Disconnected at i refl))
+      waited d word.Disconnected at i a = cc (unmarked d word.Disconnected at i refl)
 
       readied : (u m : ℕ) → Chosen M t.0 σ u m 1 → MetBy (after_step M t (ReadyWait σ))
       readied u m C = (
@@ -163,7 +148,7 @@ module _ (M : Moment Past) (I : Inv M) where
             answers (C.since ready)
             (stands_at M K t there (ReadyWait σ) (writes effect.Clear (Ended (met_by σ (packet_of M.now t.0).message)))
             ∙ ap Done (met_alike σ _ m (C.message ready))))
-            (λ i. absurd (clash (sym ready ∙ i))),
+            (λ i. cc (ready, i)),
       )
 
     pub ends : awaits σ (place_of M.now t.0) ≡ true → Accepted M (steps t) → MetBy (next rule M (steps t))

@@ -1,19 +1,18 @@
 -- The moment after a step of thread t: nothing has changed, or the step of its place was made.
 use Prim.Native.Nat.{ℕ, ◌<◌}
-use mathlib.Core.Path.{◌≡◌, refl, sym, ap, ◌∙◌}
+use mathlib.Core.Path.{◌≡◌, refl, ap}
 use mathlib.Core.Bool.{Bool, true, false}
 use mathlib.Core.Logic.{◌≢◌}
-use native.Mathlib.Omega.{arith}
 use lib.Seq.{get_or-set_other}
-use Rattle.waker.specs.Choice.{choice, when◌then◌else◌}
+use Rattle.std.specs.Prelude.{if◌then◌else◌}
 use Rattle.waker.specs.declared.context.Thread.{Thread}
 use Rattle.zero.specs.Zero.{outcome_of, applied}
 use Rattle.zero.specs.declared.call.ZeroCall.{ZeroCall}
-use Rattle.zero.specs.declared.outcome.ZeroOutcome.{ZeroOutcome}
+use Rattle.zero.specs.ZeroOutcome.{ZeroOutcome}
 use Rattle.schedule.specs.Record.{thread_at, place_of, with_thread, place_after_zero, after_zero}
 use Rattle.schedule.specs.History.{steps, act_on, Moment, remembered, next}
 use Rattle.places.specs.declared.place.Place.{Place}
-use Rattle.places.specs.declared.place.Place.TheVariants.{Idle, Array, Zero}
+use Rattle.places.specs.declared.place.Place.TheVariants.{Idle, Zero}
 use Rattle.schedule.specs.declared.record.Record.{Record}
 use Rattle.schedule.specs.declared.record.ThreadRecord.{ThreadRecord}
 use Rattle.bounds.specs.declared.refusal.Refusal.{Refusal}
@@ -30,7 +29,7 @@ use Rattle.handover.specs.Statement.{Accepted}
 abbrev pub step_to : Moment Past → Thread → ZeroCall → ZeroOutcome → Moment Past
 step_to M t k o =
     record {
-      now = after_zero M.now t.0 (record { zero = applied M.now.zero t o.effect; next = o.next });
+      now = after_zero M.now t.0 (applied M.now.zero t o.effect, o.next);
       past = brought M.now M.past t.0 k o.effect;
     }
 
@@ -39,8 +38,7 @@ after_step M t k = step_to M t k (outcome_of M.now.zero t M.now.clock k)
 
 -- What holds of both outcomes of a test holds of its outcome.
 pub either : (P : ZeroOutcome → Type 0) (b : Bool) {x y : ZeroOutcome} → (b ≡ true → P x) → (b ≡ false → P y) →
-    P (when b then x else y)
-unfolding choice
+    P (if b then x else y)
 either P true p q = p refl
 either P false p q = q refl
 
@@ -52,18 +50,12 @@ module _ (M : Moment Past) (t : Thread) (k : ZeroCall) (at : place_of M.now t.0 
       (λ a y. a ≡ steps t → Q (record { now = y.next; past = remembered rule M a y.reply }) y.reply)
       (record {
         refuse = λ a n e. stays n;
-        begin = λ u c m d p l e s g. absurd (let z : ◌≡◌ {A = ℕ} 0 1 = cc in omega arith);
-        array = λ u c l few e g.
-            let s : u ≡ t = cc in
-            let f : Zero k ≡ Array c = sym at ∙ ap (λ (u : Thread). place_of M.now u.0) (sym s) ∙ e in
-            absurd (let z : ◌≡◌ {A = ℕ} 0 1 = cc in omega arith);
-        zero = λ u c l few e g.
-            let s : u ≡ t = cc in
-            let f : Zero k ≡ Zero c = sym at ∙ ap (λ (u : Thread). place_of M.now u.0) (sym s) ∙ e in
-            rw e (go u c s (let h : k ≡ c = cc in sym h) l);
-        fail = λ u c j l few e f g. absurd (let z : ◌≡◌ {A = ℕ} 0 1 = cc in omega arith);
-        advance = λ n l g. absurd (let z : ◌≡◌ {A = ℕ} 0 1 = cc in omega arith);
-        take = λ u a l e g. absurd (let z : ◌≡◌ {A = ℕ} 0 1 = cc in omega arith);
+        begin = λ u c m d p l e s g. cc;
+        array = λ u c l few e g. cc;
+        zero = λ u c l few e g. rw e (go u c (cc) (cc) l);
+        fail = λ u c j l few e f g. cc;
+        advance = λ n l g. cc;
+        take = λ u a l e g. cc;
       })
       (steps t) refl
     where
@@ -74,7 +66,7 @@ module _ (M : Moment Past) (t : Thread) (k : ZeroCall) (at : place_of M.now t.0 
   pub step_done : (Q : Moment Past → Type 0) → (t.0 < M.now.count → Q (after_step M t k)) → Accepted M (steps t) →
       Q (next rule M (steps t))
   step_done Q h =
-      step_is (λ N y. y ≡ Done → Q N) (λ n e. absurd (let z : ◌≡◌ {A = ℕ} 0 1 = cc in omega arith)) (λ l e. h l)
+      step_is (λ N y. y ≡ Done → Q N) (λ n e. cc) (λ l e. h l)
 
 -- Where the others stand once t stands at p,
 pub elsewhere : (r : Record) (t : ℕ) (p : Place) (u : ℕ) → u ≢ t → place_of (with_thread r t p) u ≡ place_of r u

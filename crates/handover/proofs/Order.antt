@@ -9,10 +9,9 @@ use native.Mathlib.Decide.{ℕ_discrete}
 use Rattle.waker.specs.Waker.{oldest}
 use Rattle.waker.specs.Wakers.{other_side}
 use Rattle.waker.specs.declared.context.Thread.{Thread}
-use Rattle.waker.specs.declared.waker.Found.{Found}
-use Rattle.waker.specs.declared.waker.Found.TheVariants.{Nobody, At}
+use Rattle.std.specs.Prelude.{Option, Some, None}
 use Rattle.waker.specs.declared.wakers.Side.{Side}
-use Rattle.zero.specs.ZeroOutcome.{writes, ends}
+use Rattle.channel.specs.Outcome.{writes, ends}
 use Rattle.zero.specs.ZeroSteps.{side_of, message_of, partner_for, alone_step, first_step}
 use Rattle.zero.specs.Zero.{found_by}
 use Rattle.channel.specs.declared.answer.Tick.{Tick}
@@ -25,8 +24,8 @@ use Rattle.zero.specs.declared.call.Limit.{Limit}
 use Rattle.zero.specs.declared.call.Limit.TheVariants.{Try, Until}
 use Rattle.zero.specs.declared.call.ZeroCall.TheVariants.{First, Wait}
 use Rattle.zero.specs.declared.outcome.ZeroEffect.TheVariants as effect
-use Rattle.zero.specs.declared.outcome.ZeroNext.TheVariants.{Goes}
-use Rattle.zero.specs.declared.outcome.ZeroOutcome.{ZeroOutcome}
+use Rattle.channel.specs.declared.outcome.Next.TheVariants.{Goes}
+use Rattle.zero.specs.ZeroOutcome.{ZeroOutcome}
 use Rattle.schedule.specs.Record.{place_of, place_after_zero}
 use Rattle.forms.specs.FormWaits.{times_in}
 use Rattle.schedule.specs.History.{steps, Moment, next}
@@ -56,11 +55,11 @@ module _ (M : Moment Past) (I : Inv M) where
     Joins N = place_of N.now t.0 ≡ Zero (Wait σ d) → (σ ≡ side_of o) × Registered M N t (side_of o) d
 
     partner_waits : (o : Offer) (v : Thread) → Zero (partner_for o v) ≡ Zero (Wait σ d) → ⊥
-    partner_waits (Send m) v e = let z : ◌≡◌ {A = ℕ} 0 1 = cc in omega arith
-    partner_waits Receive v e = let z : ◌≡◌ {A = ℕ} 0 1 = cc in omega arith
+    partner_waits (Send m) v e = cc
+    partner_waits Receive v e = cc
 
     done_waits : (a : Answer) → Done a ≡ Zero (Wait σ d) → ⊥
-    done_waits a e = let z : ◌≡◌ {A = ℕ} 0 1 = cc in omega arith
+    done_waits a e = cc
 
     module _ (there : t.0 < M.now.count) where
       ended : (l : Limit) (x : ZeroOutcome) → (place_after_zero x.next ≡ Zero (Wait σ d) → ⊥) → Joins (step_to M t (First o l) x)
@@ -69,15 +68,14 @@ module _ (M : Moment Past) (I : Inv M) where
       alone : (l : Limit) → Joins (step_to M t (First o l) (alone_step o l))
       alone Try e = ended Try (alone_step o Try) (done_waits _) e
       alone (Until c) e =
-          let f : Zero (Wait (side_of o) c) ≡ Zero (Wait σ d) = sym (at_wait M I t there o c) ∙ e in
-          let g : c ≡ d = cc in (
-            let h : side_of o ≡ σ = cc in sym h,
-            subst (λ (x : Tick). Registered M (joined M I t there o c) t (side_of o) x) g (registered M I t there o c),
+          let f = at_wait M I t there o c in (
+            cc,
+            subst (λ (x : Tick). Registered M (joined M I t there o c) t (side_of o) x) (cc) (registered M I t there o c),
           )
 
-      first : (l : Limit) (f : Found) (b : Bool) → Joins (step_to M t (First o l) (first_step o l f b))
-      first l (At v) b = ended l (first_step o l (At v) b) (partner_waits o v)
-      first l Nobody b =
+      first : (l : Limit) (f : Option Thread) (b : Bool) → Joins (step_to M t (First o l) (first_step o l f b))
+      first l (Some v) b = ended l (first_step o l (Some v) b) (partner_waits o v)
+      first l None b =
           either (λ x. Joins (step_to M t (First o l) x)) b (λ g. ended l (ends (Disconnected (message_of o))) (done_waits _))
           (λ g. alone l)
 
@@ -85,8 +83,7 @@ module _ (M : Moment Past) (I : Inv M) where
     registers l at =
         step_is M t (First o l) at (λ N y. Joins N)
         (λ n e.
-        let f : Zero (First o l) ≡ Zero (Wait σ d) = sym at ∙ e in
-        absurd (let z : ◌≡◌ {A = ℕ} 0 1 = cc in omega arith))
+        cc)
         (λ there. first there l (found_by z t (First o l)) z.disconnected)
 
   -- Who is picked.
@@ -99,15 +96,12 @@ module _ (M : Moment Past) (I : Inv M) where
     q = queue_at M.now ρ
 
     apart : t ≢ u.0
-    apart e =
-        let f : Zero (Wait (other_side (side_of o)) d) ≡ Zero (First o l) = sym W.place ∙ ap (place_of M.now) e ∙ at in
-        let z : ◌≡◌ {A = ℕ} 0 1 = cc in
-        omega arith
+    apart e = cc
 
     here : 0 < times_in t q
     here = omega (arith, queued M I t ρ d W)
 
-    picked : (there : u.0 < M.now.count) (v : Thread) → oldest u z.wakers.contexts q ≡ At v →
+    picked : (there : u.0 < M.now.count) (v : Thread) → oldest u z.wakers.contexts q ≡ Some v →
         Picks M (step_to M u (First o l) (writes (effect.Pick (other_side (side_of o)) v) (Goes (partner_for o v)))) t u ρ o
     picked there v f =
         record {
@@ -137,10 +131,10 @@ module _ (M : Moment Past) (I : Inv M) where
     picks_on : Accepted M (steps u) → Picks M (next rule M (steps u)) t u ρ o
     picks_on = step_done M u (First o l) at (λ N. Picks M N t u ρ o) (λ there. go there _ refl)
       where
-        go : u.0 < M.now.count → (f : Found) → oldest u z.wakers.contexts q ≡ f →
+        go : u.0 < M.now.count → (f : Option Thread) → oldest u z.wakers.contexts q ≡ f →
             Picks M (step_to M u (First o l) (first_step o l f z.disconnected)) t u ρ o
-        go there (At v) f = picked there v f
-        go there Nobody f = absurd (oldest_none u z.wakers.contexts t apart W.word q f here)
+        go there (Some v) f = picked there v f
+        go there None f = absurd (oldest_none u z.wakers.contexts t apart W.word q f here)
 
   pub picks : (t : ℕ) (σ : Side) (d : Tick) → Waits M.now t σ d → (u : Thread) (o : Offer) (l : Limit) →
       place_of M.now u.0 ≡ Zero (First o l) → side_of o ≡ other_side σ → Accepted M (steps u) →

@@ -1,19 +1,19 @@
 -- A first step that picks a waiter.
 use Prim.Native.Nat.{ℕ, suc, ◌+◌, ◌<◌, ◌≤◌}
-use mathlib.Core.Path.{◌≡◌, refl, sym, ap, ◌∙◌}
+use mathlib.Core.Path.{◌≡◌, refl, ap, ◌∙◌}
 use mathlib.Core.Bool.{Bool, true, false}
 use mathlib.Core.Logic.{◌≢◌}
 use mathlib.Core.List.{List, [], ◌∷◌}
 use native.Mathlib.Omega.{arith}
-use Rattle.waker.specs.Choice.{choice, when◌then◌else◌}
+use Rattle.std.specs.Prelude.{◌&&◌, if◌then◌else◌}
 use Rattle.waker.specs.Waker.{oldest, queue_of, without}
 use Rattle.waker.specs.Wakers.{other_side}
 use Rattle.waker.specs.declared.context.Thread.{Thread}
 use Rattle.waker.specs.declared.context.Selected.TheVariants as word
-use Rattle.waker.specs.declared.waker.Found.TheVariants.{At}
+use Rattle.std.specs.Prelude.{Some}
 use Rattle.waker.specs.declared.wakers.Side.{Side}
 use Rattle.waker.proofs.WakerLaws.{entries_queue_of}
-use Rattle.zero.specs.ZeroOutcome.{writes}
+use Rattle.channel.specs.Outcome.{writes}
 use Rattle.zero.specs.ZeroSteps.{side_of, message_of, partner_for}
 use Rattle.channel.specs.declared.answer.Tick.{Tick}
 use Rattle.zero.specs.declared.call.Offer.{Offer}
@@ -21,14 +21,13 @@ use Rattle.zero.specs.declared.call.Offer.TheVariants.{Send, Receive}
 use Rattle.zero.specs.declared.call.Limit.{Limit}
 use Rattle.zero.specs.declared.call.ZeroCall.TheVariants.{First}
 use Rattle.zero.specs.declared.outcome.ZeroEffect.TheVariants as effect
-use Rattle.zero.specs.declared.outcome.ZeroNext.TheVariants.{Goes}
-use Rattle.zero.specs.declared.outcome.ZeroOutcome.{ZeroOutcome}
+use Rattle.channel.specs.declared.outcome.Next.TheVariants.{Goes}
+use Rattle.zero.specs.ZeroOutcome.{ZeroOutcome}
 use Rattle.schedule.specs.Record.{place_of}
 use Rattle.schedule.specs.History.{steps, Moment, updated}
 use Rattle.forms.specs.FormWaits.{same_side, partner_of, times_in}
 use Rattle.forms.specs.declared.waits.Partner.TheVariants.{Of}
 use Rattle.places.specs.declared.place.Place.TheVariants.{Zero}
-use Rattle.grown.proofs.Tests.{clash}
 use Rattle.grown.proofs.Times.{Finds, found}
 use Rattle.grown.proofs.Orderly.{view_on, Picks}
 use Rattle.grown.proofs.Places.{stands_picked}
@@ -63,7 +62,7 @@ names Receive v = refl
 
 module _ (M : Moment Past) (I : Inv M) (t : Thread) (there : t.0 < M.now.count) (o : Offer) (l : Limit) (v : Thread)
     (at : place_of M.now t.0 ≡ Zero (First o l))
-    (f : oldest t M.now.zero.wakers.contexts (queue_at M.now (other_side (side_of o))) ≡ At v) where
+    (f : oldest t M.now.zero.wakers.contexts (queue_at M.now (other_side (side_of o))) ≡ Some v) where
   abbrev ρ : Side
   ρ = other_side (side_of o)
 
@@ -133,8 +132,8 @@ module _ (M : Moment Past) (I : Inv M) (t : Thread) (there : t.0 < M.now.count) 
       record {
         pair = theirs;
         own = λ s. ap (λ (σ : Side). M.past.carried (sender_of σ t.0 v.0)) s;
-        since = λ r. absurd (clash (sym r ∙ P.ready));
-        message = λ r. absurd (clash (sym r ∙ P.ready));
+        since = λ r. cc (r, P.ready);
+        message = λ r. cc (r, P.ready);
       }
 
   -- Every other waiter of that side has counted one more, and has one less ahead.
@@ -146,14 +145,13 @@ module _ (M : Moment Past) (I : Inv M) (t : Thread) (there : t.0 < M.now.count) 
       rw e (ahead_less v u queue k (oldest_least t M.now.zero.wakers.contexts u n w v queue f q) F.there)
 
   load : (u : ℕ) → u ≢ t.0 → u ≢ v.0 → Load M N (steps t) u
-  unfolding choice
   load u n k σ d U = go (same_side ρ σ) refl
     where
       q : 0 < times_in u (queue_at M.now σ)
       q = omega (arith, queued M I u σ d U)
 
       now : N.past.opposed u
-          ≡ (when (when same_side ρ σ then true else false) then suc (M.past.opposed u) else M.past.opposed u)
+          ≡ (if same_side ρ σ && true then suc (M.past.opposed u) else M.past.opposed u)
       now = opposed_now M t (First o l) at u n choosing k ∙ rw (U.place, U.word)
 
       go : (b : Bool) → same_side ρ σ ≡ b →

@@ -1,6 +1,6 @@
 -- Steps by which a call serves the partner that it names keep what holds at all places.
 use Prim.Native.Nat.{ℕ, suc, ◌<◌}
-use mathlib.Core.Path.{◌≡◌, refl, sym, ap, ◌∙◌}
+use mathlib.Core.Path.{◌≡◌, refl, ap, ◌∙◌}
 use mathlib.Core.Bool.{true, false}
 use mathlib.Core.Logic.{◌≢◌}
 use mathlib.Core.List.{[], ◌∷◌}
@@ -8,7 +8,7 @@ use native.Mathlib.Omega.{arith}
 use Rattle.waker.specs.declared.context.Thread.{Thread}
 use Rattle.waker.specs.declared.wakers.Side.{Side}
 use Rattle.waker.specs.declared.wakers.Side.TheVariants.{Sender, Receiver}
-use Rattle.zero.specs.ZeroOutcome.{writes}
+use Rattle.channel.specs.Outcome.{writes}
 use Rattle.zero.specs.ZeroSteps.{put_step, put_ready_step, take_step, take_ready_step}
 use Rattle.zero.specs.Zero.{packet, packet_at, with_packet, with_message}
 use Rattle.channel.specs.declared.answer.Answer.{Answer}
@@ -17,15 +17,14 @@ use Rattle.zero.specs.declared.Packet.{Packet}
 use Rattle.zero.specs.declared.call.ZeroCall.{ZeroCall}
 use Rattle.zero.specs.declared.call.ZeroCall.TheVariants.{Put, PutReady, Take, TakeReady}
 use Rattle.zero.specs.declared.outcome.ZeroEffect.TheVariants as effect
-use Rattle.zero.specs.declared.outcome.ZeroNext.TheVariants.{Goes, Ends}
-use Rattle.zero.specs.declared.outcome.ZeroOutcome.{ZeroOutcome}
+use Rattle.channel.specs.declared.outcome.Next.TheVariants.{Goes, Ends}
+use Rattle.zero.specs.ZeroOutcome.{ZeroOutcome}
 use Rattle.schedule.specs.Record.{place_of, place_after_zero}
 use Rattle.schedule.specs.History.{Moment}
 use Rattle.forms.specs.FormWaits.{partner_of}
 use Rattle.forms.specs.declared.waits.Partner.TheVariants.{Of}
 use Rattle.places.specs.declared.place.Place.TheVariants.{Zero, Done}
 use Rattle.schedule.specs.declared.record.Record.{Record}
-use Rattle.grown.proofs.Tests.{clash}
 use Rattle.grown.proofs.Orderly.{view_on, Picks}
 use Rattle.grown.proofs.Places.{naming}
 use Rattle.handover.specs.Meetings.{Past, pair_of, plain, word_at, packet_of}
@@ -73,8 +72,8 @@ module _ (M : Moment Past) (I : Inv M) (t : Thread) (there : t.0 < M.now.count) 
       record {
         pair = J.theirs;
         own = theirs;
-        since = λ r. absurd (clash (sym r ∙ e));
-        message = λ r. absurd (clash (sym r ∙ e));
+        since = λ r. cc (r, e);
+        message = λ r. cc (r, e);
       }
 
   joint : (N : Record) → Joint (record { now = N; past = plain M.now M.past t.0 k }) t.0 ρ v m (suc n)
@@ -143,7 +142,7 @@ module _ (M : Moment Past) (I : Inv M) (t : Thread) (there : t.0 < M.now.count) 
       After M I t there (TakeReady v m) at (take_ready_step v m)
   take_ready_step_lem m at =
       readies M I t there (TakeReady v m) at Sender v refl (λ u σ d n W. refl) m 1 J (Received m)
-      (λ s. let z : ◌≡◌ {A = ℕ} 0 1 = cc in absurd (omega arith)) (J.code, (v.0, J.mine))
+      (λ s. cc) (J.code, (v.0, J.mine))
     where
       J : Joint M t.0 Sender v m 1
       J = rw at at (I.self t.0)

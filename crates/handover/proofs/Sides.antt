@@ -5,11 +5,10 @@ use Rattle.waker.specs.Wakers.{other_side}
 use Rattle.waker.specs.declared.wakers.Side.{Side}
 use Rattle.waker.specs.declared.wakers.Side.TheVariants.{Sender, Receiver}
 use Rattle.channel.specs.declared.answer.Tick.{Tick}
-use Rattle.zero.specs.declared.call.ZeroCall.TheVariants.{First, Put, PutReady, Take, TakeReady, Wait, ReadyWait, Leave, Ask}
+use Rattle.zero.specs.declared.call.ZeroCall.TheVariants.{Wait, ReadyWait}
 use Rattle.forms.specs.FormWaits.{same_side, awaits}
 use Rattle.places.specs.declared.place.Place.{Place}
-use Rattle.places.specs.declared.place.Place.TheVariants.{Idle, Array, Zero, Done}
-use Rattle.grown.proofs.Tests.{clash}
+use Rattle.places.specs.declared.place.Place.TheVariants.{Zero}
 
 pub twice : (σ : Side) → other_side (other_side σ) ≡ σ
 twice Sender = refl
@@ -21,8 +20,8 @@ own_side Receiver = refl
 
 pub one_side : (σ τ : Side) → same_side σ τ ≡ true → σ ≡ τ
 one_side Sender Sender e = refl
-one_side Sender Receiver e = absurd (clash (sym e))
-one_side Receiver Sender e = absurd (clash (sym e))
+one_side Sender Receiver e = cc
+one_side Receiver Sender e = cc
 one_side Receiver Receiver e = refl
 
 -- Whoever awaits is at wait or at ready-wait.
@@ -31,18 +30,9 @@ pub data Awaits (σ : Side) (p : Place) : Type 0 where
   at_ready : p ≡ Zero (ReadyWait σ) → Awaits σ p
 
 pub awaiting : (σ : Side) (p : Place) → awaits σ p ≡ true → Awaits σ p
-awaiting σ Idle e = absurd (clash (sym e))
-awaiting σ (Array k) e = absurd (clash (sym e))
-awaiting σ (Zero (First o l)) e = absurd (clash (sym e))
-awaiting σ (Zero (Put v m)) e = absurd (clash (sym e))
-awaiting σ (Zero (PutReady v)) e = absurd (clash (sym e))
-awaiting σ (Zero (Take v)) e = absurd (clash (sym e))
-awaiting σ (Zero (TakeReady v m)) e = absurd (clash (sym e))
 awaiting σ (Zero (Wait own d)) e = at_wait d (ap (λ (τ : Side). Zero (Wait τ d)) (sym (one_side σ own e)))
 awaiting σ (Zero (ReadyWait own)) e = at_ready (ap (λ (τ : Side). Zero (ReadyWait τ)) (sym (one_side σ own e)))
-awaiting σ (Zero (Leave own)) e = absurd (clash (sym e))
-awaiting σ (Zero (Ask q)) e = absurd (clash (sym e))
-awaiting σ (Done a) e = absurd (clash (sym e))
+awaiting σ _ e = cc
 
 -- A call awaits on one side.
 pub awaits_once : (σ τ : Side) (p : Place) → awaits σ p ≡ true → awaits τ p ≡ true → σ ≡ τ

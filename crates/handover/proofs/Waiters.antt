@@ -17,7 +17,6 @@ use Rattle.schedule.specs.History.{Moment}
 use Rattle.forms.specs.FormWaits.{queued_at, awaits, partner_of, times_in}
 use Rattle.forms.specs.declared.waits.Partner.TheVariants.{Of}
 use Rattle.places.specs.declared.place.Place.{Place}
-use Rattle.grown.proofs.Tests.{clash}
 use Rattle.grown.proofs.Orderly.{view_on, Picks}
 use Rattle.grown.proofs.Places.{waiting_there, stands_queued, stands_waiting}
 use Rattle.grown.proofs.ZeroKept.{inside}
@@ -38,7 +37,7 @@ module _ (M : Moment Past) (I : Inv M) where
       packet_at (with_packet M.now.zero v k) v ≡ k
   given u σ v e k =
       packet_here M.now.zero v k
-      (rw I.kept.sound.packets (inside M.now I.kept v.0 (λ i. clash (sym (rw i at (named u σ v e).waits)))))
+      (rw I.kept.sound.packets (inside M.now I.kept v.0 (λ i. cc (named u σ v e).waits)))
 
   module _ (u : ℕ) (σ : Side) where
     pub waiter : (d : Tick) → Waits M.now u σ d → Waiter M u σ
@@ -61,7 +60,7 @@ module _ (M : Moment Past) (I : Inv M) where
 
         go : Awaits σ (place_of M.now u) → (d : Tick) × Waits M.now u σ d
         go (at_wait d e) = (d, record { place = e; word = w })
-        go (at_ready e) = absurd (clash (sym (rw e at stands)))
+        go (at_ready e) = cc stands
 
 -- A call knows its side by its code.
 pub on_side_lem : (M : Moment Past) (t : ℕ) (σ : Side) (l : Limit) → Limited M t σ l → OnSide M t σ

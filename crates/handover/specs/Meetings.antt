@@ -1,6 +1,5 @@
 -- What a history has brought about on a rendezvous, read off its accepted calls.
-use Rattle.std.specs.Prelude.{ℕ, suc, Bool, false, List, [], ◌∷◌, length}
-use Rattle.waker.specs.Choice.{when◌then◌else◌}
+use Rattle.std.specs.Prelude.{ℕ, suc, Bool, false, ◌&&◌, List, [], ◌∷◌, Option, Some, None, length, if◌then◌else◌}
 use Rattle.waker.specs.Context.{thread, is_waiting}
 use Rattle.waker.specs.Wakers.{other_side, listed, word_of}
 use Rattle.waker.specs.declared.context.Selected.{Selected}
@@ -12,7 +11,7 @@ use Rattle.zero.specs.declared.Packet.{Packet}
 use Rattle.zero.specs.declared.call.Question.{Question}
 use Rattle.zero.specs.declared.call.Question.TheVariants as ask
 use Rattle.zero.specs.declared.call.ZeroCall.{ZeroCall}
-use Rattle.zero.specs.declared.call.ZeroCall.TheVariants.{First, Put, PutReady, Take, TakeReady, Wait, ReadyWait, Leave, Ask}
+use Rattle.zero.specs.declared.call.ZeroCall.TheVariants.{First, Wait}
 use Rattle.zero.specs.declared.outcome.ZeroEffect.{ZeroEffect}
 use Rattle.zero.specs.declared.outcome.ZeroEffect.TheVariants as effect
 use Rattle.schedule.specs.Record.{place_of}
@@ -82,30 +81,13 @@ ask_code ask.Disconnect = code.Disconnect
 
 -- A call waits on a side with its word Waiting.
 abbrev pub waits_on : Side → Place → Selected → Bool
-waits_on σ Idle w = false
-waits_on σ (Array k) w = false
-waits_on σ (Zero (First o l)) w = false
-waits_on σ (Zero (Put v m)) w = false
-waits_on σ (Zero (PutReady v)) w = false
-waits_on σ (Zero (Take v)) w = false
-waits_on σ (Zero (TakeReady v m)) w = false
-waits_on σ (Zero (Wait own d)) w = when same_side σ own then is_waiting w else false
-waits_on σ (Zero (ReadyWait own)) w = false
-waits_on σ (Zero (Leave own)) w = false
-waits_on σ (Zero (Ask q)) w = false
-waits_on σ (Done a) w = false
+waits_on σ (Zero (Wait own d)) w = same_side σ own && is_waiting w
+waits_on σ _ w = false
 
 -- A first step counts for every waiter of the other side.
 abbrev pub opposes : ZeroCall → Place → Selected → Bool
 opposes (First o l) p w = waits_on (other_side (side_of o)) p w
-opposes (Put v m) p w = false
-opposes (PutReady v) p w = false
-opposes (Take v) p w = false
-opposes (TakeReady v m) p w = false
-opposes (Wait σ d) p w = false
-opposes (ReadyWait σ) p w = false
-opposes (Leave σ) p w = false
-opposes (Ask q) p w = false
+opposes _ p w = false
 
 -- Of a caller t and a v of side σ that it picked: the one that sends.
 abbrev pub sender_of : Side → ℕ → ℕ → ℕ
@@ -118,7 +100,7 @@ pair_of v m = record { partner = v; message = m }
 -- What thread t's step at a place adds, by its effect; the record is the one before the step.
 module _ (r : Record) (h : Past) (t : ℕ) (k : ZeroCall) where
   abbrev pub opposed_after : ℕ → ℕ
-  opposed_after u = when opposes k (place_of r u) (word_at r u) then suc (h.opposed u) else h.opposed u
+  opposed_after u = if opposes k (place_of r u) (word_at r u) then suc (h.opposed u) else h.opposed u
 
   abbrev pub plain : Past
   plain =
@@ -171,18 +153,18 @@ module _ (r : Record) (h : Past) (t : ℕ) (k : ZeroCall) where
         since = updated h.since v 0;
       }
 
-  abbrev pub brought : ZeroEffect → Past
-  brought effect.Nothing = plain
-  brought (effect.Pick σ v) = paired v.0 (h.carried (sender_of σ t v.0))
-  brought (effect.Join o) = registered_on (side_of o)
-  brought (effect.PutMessage v m) = plain
-  brought (effect.TakeMessage v) = plain
-  brought (effect.SetReady v) = marked v.0
-  brought (effect.Abort σ) = plain
-  brought (effect.GiveUp σ) = plain
-  brought (effect.Leave σ) = plain
-  brought effect.Clear = plain
-  brought effect.Disconnect = plain
+  abbrev pub brought : Option ZeroEffect → Past
+  brought None = plain
+  brought (Some (effect.Pick σ v)) = paired v.0 (h.carried (sender_of σ t v.0))
+  brought (Some (effect.Join o)) = registered_on (side_of o)
+  brought (Some (effect.PutMessage v m)) = plain
+  brought (Some (effect.TakeMessage v)) = plain
+  brought (Some (effect.SetReady v)) = marked v.0
+  brought (Some (effect.Abort σ)) = plain
+  brought (Some (effect.GiveUp σ)) = plain
+  brought (Some (effect.Leave σ)) = plain
+  brought (Some effect.Clear) = plain
+  brought (Some effect.Disconnect) = plain
 
 abbrev pub brought_at : Record → Past → ℕ → Place → Past
 brought_at r h t Idle = h

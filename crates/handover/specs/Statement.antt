@@ -1,6 +1,5 @@
--- Demand 3, sentence by sentence: for every number of threads and history from a fresh rendezvous.
-use Rattle.std.specs.Prelude.{ℕ, suc, ◌+◌, ◌<◌, ◌≤◌, ◌≡◌, true, false, ◌⊎◌, ◌≢◌, List, [], ◌∷◌, ◌++◌, length, eqb}
-use Rattle.waker.specs.Choice.{when◌then◌else◌}
+-- Who meets whom, sentence by sentence: for every number of threads and history from a fresh rendezvous.
+use Rattle.std.specs.Prelude.{ℕ, suc, ◌+◌, ◌<◌, ◌≤◌, ◌≡◌, true, false, ◌⊎◌, ◌≢◌, List, [], ◌∷◌, ◌++◌, length, eqb, if◌then◌else◌}
 use Rattle.waker.specs.Context.{thread}
 use Rattle.waker.specs.Wakers.{other_side, listed}
 use Rattle.waker.specs.declared.context.Thread.{Thread}
@@ -36,7 +35,7 @@ queue_at r σ = listed r.zero.wakers σ
 
 unfoldable pub ahead_of : ℕ → List Thread → ℕ
 ahead_of t [] = 0
-ahead_of t (e ∷ l) = when eqb e.0 t then 0 else suc (ahead_of t l)
+ahead_of t (e ∷ l) = if eqb e.0 t then 0 else suc (ahead_of t l)
 
 -- Thread t's call waits on a side until d, with its word Waiting.
 pub record Waits (r : Record) (t : ℕ) (σ : Side) (d : Tick) : Type 0 where
@@ -176,7 +175,7 @@ pub record Holds (M : Moment Past) : Type 0 where
 abbrev pub HandoverLaw : Type 0
 HandoverLaw = (n : ℕ) (r : Record) → made_zero n ≡ accepted_as r → (l : List Act) → Holds (moment_after r l)
 
--- #102: no exchange fails here. Whatever is called on a fresh rendezvous, fail is refused, and so in no history that `HandoverLaw`
+-- No exchange fails here. Whatever is called on a fresh rendezvous, fail is refused, and so in no history that `HandoverLaw`
 -- speaks of is it accepted.
 abbrev pub NoneFails : Type 0
 NoneFails = (n : ℕ) (r : Record) → made_zero n ≡ accepted_as r → (l : List Act) (t : Thread) →

@@ -1,5 +1,5 @@
-//! Demand 3, who meets whom on a rendezvous: laws only, the promise of an empty function.
-#![tactic(auto, unfolding(waker::specs::Choice::choice))]
+//! Who meets whom on a rendezvous: laws only, the promise of an empty function.
+#![tactic(auto)]
 
 ghost use Rattle.handover.specs.Statement.{HandoverLaw, NoneFails};
 

@@ -1,4 +1,4 @@
--- `handover::handover_law` promises demand 3: it holds at every moment that `Inv` holds at, and every history keeps `Inv`.
+-- `handover::handover_law` promises who meets whom: the law holds at every moment that `Inv` holds at, and every history keeps `Inv`.
 use Rattle.handover.specs.Meetings.{moment_after}
 use Rattle.handover.proofs.Histories.{inv_after}
 use Rattle.handover.proofs.Law.{holds}

@@ -1,5 +1,5 @@
 -- What a row of the bench book shows of a record.
-use Rattle.std.specs.Prelude.{ℕ, zero, suc, List, [], ◌∷◌, map, get_or}
+use Rattle.std.specs.Prelude.{ℕ, zero, suc, None, Ok, List, [], ◌∷◌, map, get_or}
 use Rattle.waker.specs.Context.{thread}
 use Rattle.waker.specs.Wakers.{listed, word_of}
 use Rattle.waker.specs.declared.context.Thread.{Thread}
@@ -15,8 +15,7 @@ use Rattle.places.specs.declared.place.Place.{Place}
 use Rattle.places.specs.declared.place.Place.TheVariants.{Array}
 use Rattle.schedule.specs.declared.record.Record.{Record}
 use Rattle.schedule.specs.declared.record.Replied.{Replied}
-use Rattle.bounds.specs.declared.refusal.Reply.{Reply}
-use Rattle.bounds.specs.declared.refusal.Reply.TheVariants as reply
+use Rattle.bounds.specs.Refusal.{Reply}
 
 -- The rules' letters for the places of an array's send and receive.
 pub data Letter : Type 0 where
@@ -86,7 +85,7 @@ pub record Page : Type 0 where
   pub sights : List Sight
 
 abbrev pub promised : Row → Page
-promised row = record { making = reply.Done; sights = map (λ (s : Shows). s.shown) row.shows }
+promised row = record { making = Ok None; sights = map (λ (s : Shows). s.shown) row.shows }
 
 -- What it does show, after its history.
 abbrev pub witnessed : Row → Page

@@ -1,17 +1,16 @@
 -- What the bounds tell: of an allowed making, its capacity and its thread count.
 use Prim.Native.Nat.{ℕ, ◌≤◌}
 use mathlib.Core.Path.{◌≡◌, refl}
-use mathlib.Core.Bool.{Bool, true, false}
+use mathlib.Core.Bool.{Bool, true, false, cond}
 use borrow.Author.Tests.{leb-true}
 use lib.Dec.{leb}
-use Rattle.waker.specs.Choice.{choice, when◌then◌else◌}
+use Rattle.std.specs.Prelude.{Result, Ok, Err, ⊤}
 use Rattle.waker.specs.Context.{threads}
 use Rattle.channel.specs.Position.{slots}
 use Rattle.bounds.specs.Limits.{capacity_fits, fewest, count_fits, making}
 use Rattle.bounds.specs.declared.flavour.Flavour.{Flavour}
 use Rattle.bounds.specs.declared.flavour.Flavour.TheVariants.{Array}
-use Rattle.bounds.specs.declared.limits.Verdict.{Verdict}
-use Rattle.bounds.specs.declared.limits.Verdict.TheVariants.{Allowed, Refused}
+use Rattle.bounds.specs.declared.refusal.Refusal.{Refusal}
 use Rattle.bounds.specs.declared.refusal.Refusal.TheVariants.{Capacity, ThreadCount}
 use Rattle.bounds.proofs.TestLaws.{and_left, and_right}
 
@@ -19,20 +18,17 @@ pub record Allows (f : Flavour) (c n : ℕ) : Type 0 where
   pub capacity : capacity_fits f c ≡ true
   pub count : count_fits f n ≡ true
 
-module _ (f : Flavour) (c n : ℕ) where
-  abbrev pub Granted : Verdict → Type 0
-  Granted Allowed = Allows f c n
-  Granted (Refused x) = Unit
+pub allows : (f : Flavour) (c n : ℕ) → making f c n ≡ Ok tt → Allows f c n
+allows f c n e = go (capacity_fits f c) (count_fits f n) refl refl e
+  where
+    made : Result ⊤ Refusal
+    made = Ok tt
 
-  pub granted : Granted (making f c n)
-  unfolding choice
-  granted = go (capacity_fits f c) (count_fits f n) refl refl
-    where
-      go : (a b : Bool) → capacity_fits f c ≡ a → count_fits f n ≡ b →
-          Granted (when a then (when b then Allowed else Refused ThreadCount) else Refused Capacity)
-      go true true p q = record { capacity = p; count = q }
-      go true false p q = tt
-      go false b p q = tt
+    go : (a b : Bool) → capacity_fits f c ≡ a → count_fits f n ≡ b →
+        cond a (cond b made (Err ThreadCount)) (Err Capacity) ≡ made → Allows f c n
+    go true true p q h = record { capacity = p; count = q }
+    go true false p q h = cc
+    go false b p q h = cc
 
 -- An array's capacity is 1 to 64, and there are at most 8 threads.
 pub capacity_some : (c : ℕ) → capacity_fits Array c ≡ true → 1 ≤ c

@@ -1,5 +1,6 @@
--- 01's table of refusals, with #102's 14.
-use Rattle.std.specs.Prelude.{ℕ}
+-- The table of refusals, and what a public call replies.
+use Rattle.std.specs.Prelude.{ℕ, Option, Result}
+use Rattle.channel.specs.declared.answer.Answer.{Answer}
 use Rattle.bounds.specs.declared.refusal.Refusal.{Refusal}
 use Rattle.bounds.specs.declared.refusal.Refusal.TheVariants.{OutOfForm, Capacity, ThreadCount, NoSuchThread, NotIdle, NotRunning, UnknownCall, StepLimit, ClockLimit, NoAnswer, Malformed, NoChannel, TooLong, NoExchange}
 
@@ -18,3 +19,7 @@ number_of Malformed = 11
 number_of NoChannel = 12
 number_of TooLong = 13
 number_of NoExchange = 14
+
+-- Accepted, with the answer where it was a take; or refused.
+abbrev pub Reply : Type 0
+Reply = Result (Option Answer) Refusal

@@ -1,15 +1,7 @@
--- Tests joined: both, not, and every number below a bound.
-use Rattle.std.specs.Prelude.{ℕ, zero, suc, Bool, true, false}
-use Rattle.waker.specs.Choice.{when◌then◌else◌}
-
-infixr 3 ◌and◌
-abbrev pub ◌and◌ : Bool → Bool → Bool
-a and b = when a then b else false
-
-abbrev pub not : Bool → Bool
-not a = when a then false else true
+-- A test of every number below a bound.
+use Rattle.std.specs.Prelude.{ℕ, Bool}
+use Rattle.std.specs.List.{list_all, range_with_len}
 
 -- Every i below n passes.
 unfoldable pub all_below : ℕ → (ℕ → Bool) → Bool
-all_below zero p = true
-all_below (suc n) p = all_below n p and p n
+all_below n p = list_all p (range_with_len 0 n)

@@ -1,5 +1,5 @@
-//! 01's bounds and table of refusals, and what they decide of a making, a step and an advance, on small values.
-#![tactic(auto, unfolding(waker::specs::Choice::choice))]
+//! The bounds of the rules and their table of refusals, and what the bounds decide of a making, a named thread, a step and an advance.
+#![tactic(auto)]
 
 pub mod flavour;
 pub mod limits;

@@ -111,7 +111,7 @@ module _ (r : Record) (h : Past) (t : ℕ) (F : Fits r.shape) (C : CoreNow r h t
         mine sending n e = let q : c.sends ≡ n = cc in inr (sym q, omega arith)
         mine receiving n e = inl e
 
-    pub send_claimed : b.code ≡ code.TrySend → (m : ℕ) → Returns b m →
+    pub send_claimed : b.code ≡ Some code.TrySend → (m : ℕ) → Returns b m →
         Good r h t (writes (ClaimSend (successor S w)) (Goes (Send (send.StoreMessage m w))))
     send_claimed k m e =
         record {
@@ -191,7 +191,7 @@ module _ (r : Record) (h : Past) (t : ℕ) (F : Fits r.shape) (C : CoreNow r h t
         mine sending n e = inl e
         mine receiving n e = let q : c.receives ≡ n = cc in inr (sym q, omega arith)
 
-    pub receive_claimed : b.code ≡ code.TryReceive → Unclaimed b →
+    pub receive_claimed : b.code ≡ Some code.TryReceive → Unclaimed b →
         Good r h t (writes (ClaimReceive (successor S w)) (Goes (Receive (receive.TakeMessage w))))
     receive_claimed k e =
         record {

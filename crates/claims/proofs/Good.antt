@@ -1,16 +1,17 @@
 -- A good step: the array stays in order, other threads keep what they rely on, and the call knows what its next place asks.
 use Prim.Native.Nat.{ℕ}
-use mathlib.Core.Path.{◌≡◌, refl}
+use mathlib.Core.Path.{◌≡◌}
 use mathlib.Core.Bool.{Bool, true, false}
 use mathlib.Core.Logic.{◌≢◌}
 use Rattle.std.specs.Prelude.{Option, None, if◌then◌else◌}
+use Rattle.std.proofs.lemmas.Bool.{cond_both}
 use Rattle.channel.specs.Outcome.{goes, ends}
 use Rattle.array.specs.ArrayOutcome.{ArrayOutcome}
 use Rattle.array.specs.Array.{applied}
 use Rattle.channel.specs.declared.answer.Answer.{Answer}
 use Rattle.array.specs.declared.call.ArrayCall.{ArrayCall}
 use Rattle.array.specs.declared.outcome.ArrayEffect.{ArrayEffect}
-use Rattle.schedule.specs.Record.{place_after_array}
+use Rattle.places.specs.Place.{place_after}
 use Rattle.places.specs.declared.place.Place.{Place}
 use Rattle.places.specs.declared.place.Place.TheVariants.{Array, Done}
 use Rattle.schedule.specs.declared.record.Record.{Record}
@@ -41,11 +42,10 @@ module _ (r : Record) (h : Past) (t : ℕ) where
 
   pub record Good (o : ArrayOutcome) : Type 0 where
     pub change : Change o.effect
-    pub stands : StandsNext o.effect (place_after_array o.next)
+    pub stands : StandsNext o.effect (place_after Array o.next)
 
   pub either : (b : Bool) {x y : ArrayOutcome} → (b ≡ true → Good x) → (b ≡ false → Good y) → Good (if b then x else y)
-  either true p q = p refl
-  either false p q = q refl
+  either b {x} {y} = cond_both b x y Good
 
   -- Steps that write nothing.
   module _ (C : CoreNow) where

@@ -3,6 +3,7 @@ use Prim.Native.Nat.{ℕ, ◌+◌, ◌-◌, ◌≤◌}
 use mathlib.Core.Path.{◌≡◌}
 use mathlib.Core.Logic.{◌⊎◌, ◌≢◌}
 use mathlib.Core.List.{List, [], ◌∷◌}
+use Rattle.std.specs.Prelude.{Some}
 use Rattle.std.specs.List.{Any}
 use Rattle.channel.specs.declared.position.Position.{Position}
 use Rattle.channel.specs.declared.position.Shape.{Shape}
@@ -138,6 +139,6 @@ kind_of Disconnect = code.Disconnect
 module _ (S : Shape) (s : Memory) (c : Claims) (a : Call) where
   abbrev pub Stands : Place → Type 0
   Stands Idle = Unit
-  Stands (Array p) = (a.code ≡ kind_of p) × Knows S s c a p
+  Stands (Array p) = (a.code ≡ Some (kind_of p)) × Knows S s c a p
   Stands (Zero p) = ⊥
   Stands (Done x) = TrueOf S.capacity a.counts a.code x × ClaimedFor c a x

@@ -3,7 +3,6 @@ use Prim.Native.Nat.{ℕ, ◌<◌}
 use mathlib.Core.Path.{◌≡◌, sym, subst, ◌∙◌}
 use mathlib.Core.Logic.{inl, inr}
 use mathlib.Core.List.{List, [], ◌∷◌}
-use native.Mathlib.Omega.{arith}
 use Rattle.channel.specs.declared.answer.Answer.{Answer}
 use Rattle.schedule.specs.Record.{place_of}
 use Rattle.schedule.specs.History.{Moment}
@@ -20,7 +19,7 @@ use Rattle.claims.proofs.Fresh.{fresh}
 -- What a claim has taken.
 taken : (c : Claims) (n m : ℕ) (l : List ℕ) → InOrder c n → c.took n ≡ m ∷ l →
     (n < c.sends) × (m ≡ c.message n) × (l ≡ [])
-taken c n m l (inl o) e = let z : ◌≡◌ {A = ℕ} 0 1 = cc in absurd (omega arith)
+taken c n m l (inl o) e = cc
 taken c n m l (inr o) e = (o.0, cc, cc)
 
 module _ (capacity : ℕ) (M : Moment Past) (I : Inv capacity M) where

@@ -1,13 +1,14 @@
 -- Every public call keeps what histories keep.
 use Prim.Native.Nat.{ℕ, ◌<◌, ◌≤◌}
-use mathlib.Core.Path.{◌≡◌, refl}
+use mathlib.Core.Path.{◌≡◌, refl, subst}
 use mathlib.Core.Logic.{◌≢◌}
 use mathlib.Core.List.{List}
 use native.Mathlib.Omega.{arith}
 use native.Mathlib.Decide.{ℕ_discrete, dec_lt}
 use lib.ListN.{get_or, set, length, length-set, get_or-eq_default}
 use lib.Seq.{get_or-set_same, get_or-set_other}
-use Rattle.std.specs.Prelude.{Some}
+use Rattle.std.specs.Prelude.{Some, option_map, Ok}
+use Rattle.std.proofs.lemmas.Option.{same_Some}
 use Rattle.channel.specs.Outcome.{goes}
 use Rattle.array.specs.ArrayOutcome.{ArrayOutcome}
 use Rattle.array.specs.Array.{outcome_of, applied}
@@ -17,18 +18,19 @@ use Rattle.channel.specs.declared.position.Shape.{Shape}
 use Rattle.array.specs.declared.Array.{Array as Memory}
 use Rattle.array.specs.declared.call.ArrayCall.{ArrayCall}
 use Rattle.array.proofs.WeakLaws.{every_failure}
-use Rattle.schedule.specs.Record.{thread_at, place_of, place_after_array, with_thread, after_array}
-use Rattle.places.specs.Begin.{code_of, unlimited, started_array, started}
+use Rattle.bounds.specs.declared.flavour.Flavour.TheVariants as flavour
+use Rattle.schedule.specs.Record.{thread_at, place_of, with_thread, after_array}
+use Rattle.places.specs.Begin.{code_of, array_call, started}
+use Rattle.places.specs.Place.{place_after}
+use Rattle.places.proofs.StartLaws.{Begins, begins}
 use Rattle.schedule.specs.History.{Moment, updated}
 use Rattle.places.specs.declared.begin.Code.{Code}
-use Rattle.places.specs.declared.begin.Code.TheVariants.{Unknown, TrySend, TryReceive, Send, Receive, Len, IsEmpty, IsFull, IsDisconnected, Disconnect}
-use Rattle.places.specs.declared.begin.Start.TheVariants.{At}
+use Rattle.places.specs.declared.begin.Code.TheVariants.{TrySend, TryReceive, Send, Receive, Len, IsEmpty, IsFull, IsDisconnected, Disconnect}
 use Rattle.places.specs.declared.place.Place.{Place}
 use Rattle.places.specs.declared.place.Place.TheVariants.{Idle, Array}
 use Rattle.schedule.specs.declared.record.ThreadRecord.{ThreadRecord}
 use Rattle.schedule.specs.declared.record.Record.{Record}
 use Rattle.grown.proofs.Acts.{Cases, Onward}
-use Rattle.grown.proofs.Starts.{begun_at, never}
 use Rattle.grown.proofs.ArrayKept.{KeptArray}
 use Rattle.grown.proofs.ArrayMoves.{fits, array_moves}
 use Rattle.claims.specs.Claims.{Claims, Call, Past, count, made_by, stepped_past, begun_call, rule}
@@ -53,24 +55,23 @@ placed P l t u p idle new old = go (ℕ_discrete u t) (dec_lt t (length l))
         rw (e, get_or-eq_default (set l t (thread_at p)) (thread_at Idle) {n = t} out) idle
 
 -- At its first place a call knows its code and its message, and has made no claim.
-module _ (S : Shape) (s : Memory) (c : Claims) (m : ℕ) (l : List ℕ) (d : Tick) (p : Place) where
+module _ (S : Shape) (s : Memory) (c : Claims) (m : ℕ) (l : List ℕ) (p : Place) where
   abbrev First : Code → Place → Type 0
-  First k q = Stands S s c (begun_call k m l) q
+  First k q = Stands S s c (begun_call (Ok k) m l) q
 
-  begins : (k : Code) (q : Place) → First k q → unlimited d q ≡ At p → First k p
-  begins k q h e = rw (begun_at d q p e) at h
+  same : (k : Code) (q : ArrayCall) → First k (Array q) → Some (Array q) ≡ Some p → First k p
+  same k q h e = subst (First k) (same_Some (Array q) p e) h
 
-  first_place : (k : Code) → started_array k m d ≡ At p → First k p
-  first_place Unknown e = absurd (never p e)
-  first_place TrySend e = begins TrySend _ (refl, ((refl, refl), refl)) e
-  first_place TryReceive e = begins TryReceive _ (refl, ((refl, refl), refl)) e
-  first_place Send e = absurd (never p e)
-  first_place Receive e = absurd (never p e)
-  first_place Len e = begins Len _ (refl, ((refl, refl), tt)) e
-  first_place IsEmpty e = begins IsEmpty _ (refl, ((refl, refl), tt)) e
-  first_place IsFull e = begins IsFull _ (refl, ((refl, refl), tt)) e
-  first_place IsDisconnected e = begins IsDisconnected _ (refl, (refl, refl)) e
-  first_place Disconnect e = begins Disconnect _ (refl, (refl, refl)) e
+  first_knows : (k : Code) → option_map Array (array_call k m) ≡ Some p → First k p
+  first_knows TrySend e = same TrySend _ (refl, ((refl, refl), refl)) e
+  first_knows TryReceive e = same TryReceive _ (refl, ((refl, refl), refl)) e
+  first_knows Send e = cc
+  first_knows Receive e = cc
+  first_knows Len e = same Len _ (refl, ((refl, refl), tt)) e
+  first_knows IsEmpty e = same IsEmpty _ (refl, ((refl, refl), tt)) e
+  first_knows IsFull e = same IsFull _ (refl, ((refl, refl), tt)) e
+  first_knows IsDisconnected e = same IsDisconnected _ (refl, (refl, refl)) e
+  first_knows Disconnect e = same Disconnect _ (refl, (refl, refl)) e
 
 module _ (capacity : ℕ) (M : Moment Past) (I : Inv capacity M) where
   abbrev r : Record
@@ -92,7 +93,7 @@ module _ (capacity : ℕ) (M : Moment Past) (I : Inv capacity M) where
       }
 
   begun : (t x m : ℕ) (l : List ℕ) (d : Tick) (p : Place) → t < r.count → place_of r t ≡ Idle →
-      started r.flavour x m d ≡ At p → Inv capacity (after_begin t (begun_call (code_of x) m l) p)
+      started r.flavour x m d ≡ Some p → Inv capacity (after_begin t (begun_call (code_of x) m l) p)
   begun t x m l d p few idle e =
       record {
         kept = (array_moves r I.kept).begin t x m d p few idle e;
@@ -104,13 +105,16 @@ module _ (capacity : ℕ) (M : Moment Past) (I : Inv capacity M) where
         stands = λ u.
             placed (StandsAt (after_begin t first p) u) r.threads t u p tt
             (λ z.
-            rw (z, updated_here h.calls t first)
-            (first_place r.shape r.array h.claims m l d p (code_of x) (rw I.kept.flavour at e)))
+            rw (z, updated_here h.calls t first, b.named)
+            (first_knows r.shape r.array h.claims m l p b.code b.first))
             (λ n. rw (updated_else h.calls t first u n) (I.stands u));
       }
     where
       first : Call
       first = begun_call (code_of x) m l
+
+      b : Begins flavour.Array x m d p
+      b = begins flavour.Array x m d p (rw I.kept.flavour at e)
 
   stepped : (t : ℕ) (k : ArrayCall) (o : ArrayOutcome) → place_of r t ≡ Array k → Good r h t o →
       KeptArray (after_step t o).now → Inv capacity (after_step t o)
@@ -123,7 +127,7 @@ module _ (capacity : ℕ) (M : Moment Past) (I : Inv capacity M) where
             owners_after h.claims x.0 h.calls t x.1 I.owners good.change.adds
             (after_step t o).past.calls (λ σ u. same_claims (place_of r u) (count x.0) _ σ);
         stands = λ u.
-            placed (StandsAt (after_step t o) u) r.threads t u (place_after_array o.next) tt
+            placed (StandsAt (after_step t o) u) r.threads t u (place_after Array o.next) tt
             (λ z. rw (z, e, updated_here h.calls t x.1) good.stands)
             (λ n.
             rw (updated_else h.calls t x.1 u n)

@@ -7,7 +7,7 @@ use native.Mathlib.Omega.{arith}
 use native.Mathlib.Decide.{ℕ_discrete}
 use Rattle.schedule.specs.History.{updated}
 use Rattle.places.specs.declared.place.Place.{Place}
-use Rattle.places.specs.declared.place.Place.TheVariants.{Idle, Array, Zero, Done}
+use Rattle.places.specs.declared.place.Place.TheVariants.{Array, Zero}
 use Rattle.claims.specs.Claims.{Claims, Call, with_moment}
 use Rattle.claims.specs.Statement.{Unclaimed}
 use Rattle.grown.proofs.Updates.{updated_here, updated_else}
@@ -48,20 +48,19 @@ adds_none c f a = record { one = λ σ. inl (same σ); mine = λ σ n e. inl e }
 
 -- A call that has made no claim, as one that begins.
 pub no_claim : (a : Call) → Unclaimed a → (σ : Side) (n : ℕ) → claims_of σ a ≡ n ∷ [] → ⊥
-no_claim a u sending n e = let z : ◌≡◌ {A = ℕ} 0 1 = cc in omega arith
-no_claim a u receiving n e = let z : ◌≡◌ {A = ℕ} 0 1 = cc in omega arith
+no_claim a u sending n e = cc
+no_claim a u receiving n e = cc
 
 pub adds_begun : (c : Claims) (a a' : Call) → Unclaimed a' → Adds c c a a'
 adds_begun c a a' u = record { one = λ σ. inl refl; mine = λ σ n e. absurd (no_claim a' u σ n e) }
 
 -- A moment more is no claim more.
 pub same_claims : (p : Place) (n : ℕ) (a : Call) (σ : Side) → claims_of σ (with_moment p n a) ≡ claims_of σ a
-same_claims Idle n a σ = refl
 same_claims (Array k) n a sending = refl
 same_claims (Array k) n a receiving = refl
 same_claims (Zero k) n a sending = refl
 same_claims (Zero k) n a receiving = refl
-same_claims (Done x) n a σ = refl
+same_claims _ n a σ = refl
 
 -- Thread t's call becomes a', and each call's claim stays its own.
 module _ (c c' : Claims) (calls : ℕ → Call) (t : ℕ) (a' : Call) (O : Owners c calls) (A : Adds c c' (calls t) a')

@@ -8,6 +8,7 @@ use native.Mathlib.Omega.{arith}
 use native.Mathlib.Decide.{ℕ_discrete}
 use lib.Dec.{eqb}
 use borrow.Author.Tests.{eqb-true, eqb-false}
+use Rattle.std.specs.Prelude.{Option, Some}
 use Rattle.std.specs.List.{Any}
 use Rattle.channel.specs.Answer.{said}
 use Rattle.channel.specs.Position.{is_marked, unmarked}
@@ -56,12 +57,12 @@ module _ (r : Record) (h : Past) (t : ℕ) (F : Fits r.shape) (C : CoreNow r h t
   b = h.calls t
 
   -- Yes or no by a test, to the question of code k.
-  says : (k : Code) → b.code ≡ k → Unclaimed b → (x : Bool) → (x ≡ true → YesTo S.capacity (count c ∷ b.counts) k) →
+  says : (k : Option Code) → b.code ≡ k → Unclaimed b → (x : Bool) → (x ≡ true → YesTo S.capacity (count c ∷ b.counts) k) →
       (x ≡ false → NoTo S.capacity (count c ∷ b.counts) k) → Good r h t (ends (said x))
   says k e u true y n = over r h t C Yes (rw e (y refl), u)
   says k e u false y n = over r h t C No (rw e (n refl), u)
 
-  len_good : b.code ≡ code.Len → (p : LenPlace) → Unclaimed b → LenKnows S s c b p → Good r h t (len_step S (cells_at s 0) p)
+  len_good : b.code ≡ Some code.Len → (p : LenPlace) → Unclaimed b → LenKnows S s c b p → Good r h t (len_step S (cells_at s 0) p)
   len_good k len.LoadTail u a = to r h t C _ (k, (u, record { n = c.sends; is = C.tail; old = omega arith }))
   len_good k (len.LoadHead w) u a =
       to r h t C _ (
@@ -87,7 +88,7 @@ module _ (r : Record) (h : Past) (t : ℕ) (F : Fits r.shape) (C : CoreNow r h t
       over r h t C _ (before _ (subst P (sym (length_is S F w v a.n a.k a.tail a.head q.0 q.1)) q.2), u))
       (λ e. to r h t C _ (k, (u, tt)))
 
-  is_empty_good : b.code ≡ code.IsEmpty → (p : IsEmptyPlace) → Unclaimed b → IsEmptyKnows S s c b p →
+  is_empty_good : b.code ≡ Some code.IsEmpty → (p : IsEmptyPlace) → Unclaimed b → IsEmptyKnows S s c b p →
       Good r h t (is_empty_step S (cells_at s 0) p)
   is_empty_good k is_empty.LoadHead u a =
       to r h t C _ (k, (u, record { k = c.receives; is = C.head; old = omega arith; held = go (ℕ_discrete _ _) }))
@@ -96,7 +97,7 @@ module _ (r : Record) (h : Past) (t : ℕ) (F : Fits r.shape) (C : CoreNow r h t
       go (yes e) = inl e
       go (no e) = inr (now _ (λ z. e (omega (arith, C.low))))
   is_empty_good k (is_empty.LoadTail v) u a =
-      says code.IsEmpty k u (eqb (unmarked S s.tail).0 v.0)
+      says (Some code.IsEmpty) k u (eqb (unmarked S s.tail).0 v.0)
       (λ e. let q = tail_is S F C.tail (eqb-true _ _ e) a.is in now _ (omega (arith, a.old)))
       (λ e. before _ (go a.held (eqb-false _ _ e)))
     where
@@ -105,7 +106,7 @@ module _ (r : Record) (h : Past) (t : ℕ) (F : Fits r.shape) (C : CoreNow r h t
       go (inl e) n = absurd (n (tail_unmarked S F C.tail ∙ ap (word S) e ∙ sym a.is))
       go (inr x) n = x
 
-  is_full_good : b.code ≡ code.IsFull → (p : IsFullPlace) → Unclaimed b → IsFullKnows S s c b p →
+  is_full_good : b.code ≡ Some code.IsFull → (p : IsFullPlace) → Unclaimed b → IsFullKnows S s c b p →
       Good r h t (is_full_step S (cells_at s 0) p)
   is_full_good k is_full.LoadTail u a =
       to r h t C _ (k, (u, record { n = c.sends; is = C.tail; old = omega arith; held = go (ℕ_discrete _ _) }))
@@ -115,7 +116,7 @@ module _ (r : Record) (h : Past) (t : ℕ) (F : Fits r.shape) (C : CoreNow r h t
       go (yes e) = inl e
       go (no e) = inr (now _ (λ z. e (omega (arith, C.low))))
   is_full_good k (is_full.LoadHead w) u a =
-      says code.IsFull k u (eqb (s.head.0 + S.lap) (unmarked S w).0)
+      says (Some code.IsFull) k u (eqb (s.head.0 + S.lap) (unmarked S w).0)
       (λ e.
       let q = a_lap_on S F c.receives a.n C.head (tail_unmarked S F a.is) (eqb-true _ _ e) in
       now _ (omega (arith, C.high, a.old)))
@@ -128,10 +129,10 @@ module _ (r : Record) (h : Past) (t : ℕ) (F : Fits r.shape) (C : CoreNow r h t
           absurd (n (omega (arith, C.head, word_lap S F c.receives, tail_unmarked S F a.is)))
       go (inr x) n = x
 
-  is_disconnected_good : b.code ≡ code.IsDisconnected → Unclaimed b → Good r h t (is_disconnected_step S s.tail)
-  is_disconnected_good k u = says code.IsDisconnected k u (is_marked S s.tail) (λ e. tt) (λ e. tt)
+  is_disconnected_good : b.code ≡ Some code.IsDisconnected → Unclaimed b → Good r h t (is_disconnected_step S s.tail)
+  is_disconnected_good k u = says (Some code.IsDisconnected) k u (is_marked S s.tail) (λ e. tt) (λ e. tt)
 
-  disconnect_good : b.code ≡ code.Disconnect → Unclaimed b → Good r h t (disconnect_step S s.tail)
+  disconnect_good : b.code ≡ Some code.Disconnect → Unclaimed b → Good r h t (disconnect_step S s.tail)
   disconnect_good k u =
       either r h t (is_marked S s.tail) (λ e. over r h t C No (rw k tt, u))
       (λ e.
@@ -140,7 +141,7 @@ module _ (r : Record) (h : Past) (t : ℕ) (F : Fits r.shape) (C : CoreNow r h t
         stands = (rw k tt, u);
       })
 
-  pub every_good : (p : ArrayCall) → b.code ≡ kind_of p → Knows S s c b p → Good r h t (outcome_of S s p)
+  pub every_good : (p : ArrayCall) → b.code ≡ Some (kind_of p) → Knows S s c b p → Good r h t (outcome_of S s p)
   every_good (Send p) k a = send_good r h t F C O k p a
   every_good (Receive p) k a = receive_good r h t F C O k p a
   every_good (Len p) k a = len_good k p a.0 a.1

@@ -3,7 +3,7 @@ use Prim.Native.Nat.{ℕ}
 use mathlib.Core.Path.{◌≡◌, refl}
 use mathlib.Core.List.{List, [], ◌∷◌, ◌++◌}
 use lib.ListN.{replicate}
-use Rattle.waker.specs.Choice.{choice}
+use Rattle.std.specs.Prelude.{Some}
 use Rattle.waker.specs.Context.{thread}
 use Rattle.waker.specs.Waker.{queue_of}
 use Rattle.channel.specs.Answer.{ticks}
@@ -52,7 +52,7 @@ moment l = moment_after (fresh_array_record 1 2) l
 
 -- Thread 1's call has this code and this answer.
 abbrev Answers : List Act → Code → Answer → Type 0
-Answers l k a = (place_of (moment l).now 1 ≡ Done a) × (((moment l).past.calls 1).code ≡ k)
+Answers l k a = (place_of (moment l).now 1 ≡ Done a) × (((moment l).past.calls 1).code ≡ Some k)
 
 pub record Reachable : Type 0 where
   pub fresh : made_array 1 2 ≡ accepted_as (fresh_array_record 1 2)
@@ -82,7 +82,7 @@ pub record Reachable : Type 0 where
   pub refused_counts : ((moment (call 1 1 7 1 ++ (fails (thread 1) ∷ []))).past.calls 1).counts ≡ 0 ∷ 0 ∷ []
 
 pub reachable : Reachable
-unfolding choice queue_of doubled_to mark_of successor unmarked stamps_from length_of all_below made_array code_of shape_in_form tail_in_form word_in_form slot_in_form stands_on times_in entry_in_form queue_in_form array_in_form zero_in_form slots_in_form queues_in_form stands_in_form thread_in_form threads_in_form in_form begun begun_in_form stepped stepped_in_form failed failed_in_form taken taken_in_form reached updated
+unfolding queue_of doubled_to mark_of successor unmarked stamps_from length_of all_below made_array code_of shape_in_form tail_in_form word_in_form slot_in_form stands_on times_in entry_in_form queue_in_form array_in_form zero_in_form slots_in_form queues_in_form stands_in_form thread_in_form threads_in_form in_form begun begun_in_form stepped stepped_in_form failed failed_in_form taken taken_in_form reached updated
 reachable =
     record {
       fresh = refl;

@@ -7,7 +7,7 @@ use native.Mathlib.Omega.{arith}
 use Rattle.std.specs.List.{Any}
 use Rattle.channel.specs.PositionBounds.{Fits}
 use Rattle.channel.specs.declared.answer.Answer.{Answer}
-use Rattle.channel.specs.declared.answer.Answer.TheVariants.{Sent, Received, Full, Empty, Disconnected, Timeout, Number, Yes, No}
+use Rattle.channel.specs.declared.answer.Answer.TheVariants.{Sent, Received}
 use Rattle.channel.specs.declared.position.Position.{Position}
 use Rattle.channel.specs.declared.position.Shape.{Shape}
 use Rattle.array.specs.declared.Array.{Array as Memory}
@@ -22,9 +22,9 @@ use Rattle.array.specs.declared.call.IsEmptyPlace.TheVariants as is_empty
 use Rattle.array.specs.declared.call.IsFullPlace.{IsFullPlace}
 use Rattle.array.specs.declared.call.IsFullPlace.TheVariants as is_full
 use Rattle.array.specs.declared.call.ArrayCall.{ArrayCall}
-use Rattle.array.specs.declared.call.ArrayCall.TheVariants.{Send, Receive, Len, IsEmpty, IsFull, IsDisconnected, Disconnect}
+use Rattle.array.specs.declared.call.ArrayCall.TheVariants.{Send, Receive, Len, IsEmpty, IsFull}
 use Rattle.places.specs.declared.place.Place.{Place}
-use Rattle.places.specs.declared.place.Place.TheVariants.{Idle, Array, Zero, Done}
+use Rattle.places.specs.declared.place.Place.TheVariants.{Array, Done}
 use Rattle.claims.specs.Claims.{Claims, Call, count, with_count, with_moment}
 use Rattle.claims.specs.Statement.{ClaimedFor}
 use Rattle.claims.proofs.Sides.{Side, sending, receiving, made, claims_of}
@@ -151,23 +151,15 @@ module _ (S : Shape) (F : Fits S) (s s' : Memory) (c c' : Claims) (a : Call) (R 
   kept (Len p) x = (x.0, len_kept p x.1)
   kept (IsEmpty p) x = (x.0, is_empty_kept p x.1)
   kept (IsFull p) x = (x.0, is_full_kept p x.1)
-  kept IsDisconnected x = x
-  kept Disconnect x = x
+  kept _ x = x
 
   claimed : (x : Answer) → ClaimedFor c a x → ClaimedFor c' a x
   claimed Sent g = (g.0, g.1, g.2, message g.0 g.1 ∙ g.3)
   claimed (Received m) g = (g.0, g.1, g.2, R.took g.0 g.2 ∙ g.3)
-  claimed (Full m) g = g
-  claimed Empty g = g
-  claimed (Disconnected m) g = g
-  claimed (Timeout m) g = g
-  claimed (Number n) g = g
-  claimed Yes g = g
-  claimed No g = g
+  claimed _ g = g
 
   -- A running call has one more moment; an answer stays as it is.
   pub stable : (p : Place) → Stands S s c a p → Stands S s' c' (with_moment p (count c') a) p
-  stable Idle x = tt
   stable (Array p) x = (x.0, kept p x.1)
-  stable (Zero p) x = x
   stable (Done y) x = (x.0, claimed y x.1)
+  stable _ x = x

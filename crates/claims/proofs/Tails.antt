@@ -7,7 +7,6 @@ use Rattle.channel.specs.Position.{index_of, is_marked, unmarked}
 use Rattle.channel.specs.PositionBounds.{Fits}
 use Rattle.channel.specs.declared.position.Position.{Position}
 use Rattle.channel.specs.declared.position.Shape.{Shape}
-use Rattle.grown.proofs.Tests.{clash}
 use Rattle.claims.proofs.Words.{slot_for, word, word_inj, word_lap, index_of_lem, index_marked, not_marked, is_marked_lem}
 
 -- w is the word of n, perhaps with the mark.
@@ -24,7 +23,7 @@ module _ (S : Shape) (F : Fits S) where
   -- A tail that shows no mark has none.
   pub tail_plain : {w : Position} {n : ℕ} → Tail S w n → is_marked S w ≡ false → w.0 ≡ word S n
   tail_plain (plain e) f = e
-  tail_plain {w} {n} (marked e) f = absurd (clash (sym (is_marked_lem S F w n e) ∙ f))
+  tail_plain {w} {n} (marked e) f = cc (is_marked_lem S F w n e, f)
 
   pub tail_index : {w : Position} {n : ℕ} → Tail S w n → index_of S w ≡ slot_for S n
   tail_index {w} {n} (plain e) = index_of_lem S F w n e

@@ -4,6 +4,7 @@ use mathlib.Core.Path.{◌≡◌, refl, sym, ap, ◌∙◌}
 use native.Mathlib.Omega.{arith}
 use lib.Dec.{eqb}
 use borrow.Author.Tests.{eqb-true}
+use Rattle.std.specs.Prelude.{Some}
 use Rattle.channel.specs.Position.{at, index_of, is_marked, unmarked}
 use Rattle.channel.specs.PositionBounds.{Fits}
 use Rattle.array.specs.ArraySteps.{send_step, receive_step}
@@ -72,7 +73,7 @@ module _ (r : Record) (h : Past) (t : ℕ) (F : Fits r.shape) (C : CoreNow r h t
       open_for (a.n + S.capacity) (slot_lap S F a.n) (omega (arith, g, a.is, word_lap S F a.n))
       (omega (arith, C.low)) (omega (arith, counted r h t F C O a))
 
-  pub send_good : b.code ≡ code.TrySend → (p : SendPlace) → SendKnows S s c b p →
+  pub send_good : b.code ≡ Some code.TrySend → (p : SendPlace) → SendKnows S s c b p →
       Good r h t (send_step S (cells_at s (send_slot S p)) p)
   send_good k (send.LoadTail m) a =
       either r h t (is_marked S s.tail) (λ e. over r h t C _ (tt, a))
@@ -108,7 +109,7 @@ module _ (r : Record) (h : Past) (t : ℕ) (F : Fits r.shape) (C : CoreNow r h t
         stands = (tt, (a.0.n, a.0.made, a.1, a.2));
       }
 
-  pub receive_good : b.code ≡ code.TryReceive → (p : ReceivePlace) → ReceiveKnows S s c b p →
+  pub receive_good : b.code ≡ Some code.TryReceive → (p : ReceivePlace) → ReceiveKnows S s c b p →
       Good r h t (receive_step S (cells_at s (receive_slot S p)) p)
   receive_good k receive.LoadHead a = to r h t C _ (k, (a, record { n = c.receives; is = C.head; old = omega arith }))
   receive_good k (receive.LoadStamp w) a =

@@ -1,5 +1,6 @@
 -- What a history has claimed on an array, read off its accepted calls.
-use Rattle.std.specs.Prelude.{Option, Some, None, ℕ, ◌+◌, ◌-◌, List, [], ◌∷◌, get_or}
+use Rattle.std.specs.Prelude.{ℕ, ◌+◌, ◌-◌, Option, Some, None, Result, List, [], ◌∷◌, get_or}
+use Rattle.std.specs.Result.{result_ok}
 use Rattle.array.specs.Array.{outcome_of}
 use Rattle.array.specs.declared.outcome.ArrayEffect.{ArrayEffect}
 use Rattle.array.specs.declared.outcome.ArrayEffect.TheVariants.{ClaimSend, ClaimReceive, StoreMessage, TakeMessage, StoreStamp, MarkTail}
@@ -7,7 +8,7 @@ use Rattle.schedule.specs.Record.{place_of}
 use Rattle.places.specs.Begin.{code_of, carried_by}
 use Rattle.schedule.specs.History.{Act, begins, steps, fails, advances, takes, Moment, reached, updated}
 use Rattle.places.specs.declared.begin.Code.{Code}
-use Rattle.places.specs.declared.begin.Code.TheVariants.{Unknown}
+use Rattle.places.specs.declared.begin.UnknownCode.{UnknownCode}
 use Rattle.places.specs.declared.place.Place.{Place}
 use Rattle.places.specs.declared.place.Place.TheVariants.{Idle, Array, Zero, Done}
 use Rattle.schedule.specs.declared.record.Record.{Record}
@@ -22,10 +23,10 @@ pub record Claims : Type 0 where
   -- Of receive claim n, what it has taken (at E), newest first.
   pub took : ℕ → List ℕ
 
--- A call: its code and the message that it carries, as begun; what send claims minus receive claims came to at its moments, and
+-- A call: its code (none before the first) and the message that it carries, as begun; what send claims minus receive claims came to at its moments, and
 -- the claims that it has made, newest first.
 pub record Call : Type 0 where
-  pub code : Code
+  pub code : Option Code
   pub carried : ℕ
   pub counts : List ℕ
   pub send_claims : List ℕ
@@ -125,8 +126,8 @@ stepped_past r h t x =
     record { claims = x.0; calls = λ u. with_moment (place_of r u) (count x.0) (updated h.calls t x.1 u) }
 
 -- A call that begins has made no claim.
-abbrev pub begun_call : Code → ℕ → List ℕ → Call
-begun_call k m l = record { code = k; carried = carried_by k m; counts = l; send_claims = []; receive_claims = [] }
+abbrev pub begun_call : Result Code UnknownCode → ℕ → List ℕ → Call
+begun_call k m l = record { code = result_ok k; carried = carried_by k m; counts = l; send_claims = []; receive_claims = [] }
 
 -- What an accepted call adds; an exchange that fails is a step that claims nothing.
 abbrev pub rule : Record → Past → Act → Past
@@ -145,7 +146,7 @@ abbrev pub nothing : Past
 nothing =
     record {
       claims = record { sends = 0; receives = 0; message = λ n. 0; took = λ n. [] };
-      calls = λ t. record { code = Unknown; carried = 0; counts = []; send_claims = []; receive_claims = [] };
+      calls = λ t. record { code = None; carried = 0; counts = []; send_claims = []; receive_claims = [] };
     }
 
 -- The moment after a history from a record.

@@ -1,5 +1,5 @@
 -- The claims law over any schedule: for every capacity, number of threads and history from a fresh array.
-use Rattle.std.specs.Prelude.{ℕ, ◌+◌, ◌<◌, ◌≤◌, ◌≡◌, ◌≢◌, List, [], ◌∷◌}
+use Rattle.std.specs.Prelude.{ℕ, ◌+◌, ◌<◌, ◌≤◌, ◌≡◌, ◌≢◌, Option, Some, List, [], ◌∷◌}
 use Rattle.std.specs.List.{Any}
 use Rattle.channel.specs.declared.answer.Answer.{Answer}
 use Rattle.channel.specs.declared.answer.Answer.TheVariants.{Sent, Received, Full, Empty, Disconnected, Timeout, Number, Yes, No}
@@ -15,17 +15,17 @@ use Rattle.claims.specs.Claims.{Claims, Call, Past, moment_after}
 -- What each answer says of the counts at the moments of its call: that one of them was so. Of what is answered yes or no, only
 -- `is_empty` and `is_full` ask about them.
 module _ (capacity : ℕ) (counts : List ℕ) where
-  abbrev pub YesTo : Code → Type 0
-  YesTo IsEmpty = Any (λ n. n ≡ 0) counts
-  YesTo IsFull = Any (λ n. n ≡ capacity) counts
+  abbrev pub YesTo : Option Code → Type 0
+  YesTo (Some IsEmpty) = Any (λ n. n ≡ 0) counts
+  YesTo (Some IsFull) = Any (λ n. n ≡ capacity) counts
   YesTo _ = Unit
 
-  abbrev pub NoTo : Code → Type 0
-  NoTo IsEmpty = Any (λ n. n ≢ 0) counts
-  NoTo IsFull = Any (λ n. n ≢ capacity) counts
+  abbrev pub NoTo : Option Code → Type 0
+  NoTo (Some IsEmpty) = Any (λ n. n ≢ 0) counts
+  NoTo (Some IsFull) = Any (λ n. n ≢ capacity) counts
   NoTo _ = Unit
 
-  abbrev pub TrueOf : Code → Answer → Type 0
+  abbrev pub TrueOf : Option Code → Answer → Type 0
   TrueOf k Sent = Unit
   TrueOf k (Received m) = Unit
   TrueOf k (Full m) = Any (λ n. n ≡ capacity) counts

@@ -1,10 +1,12 @@
 -- Begin and take, and a call that leaves all where they are, keep what holds at all places.
 use Prim.Native.Nat.{ℕ, ◌<◌, ◌≤◌}
-use mathlib.Core.Path.{◌≡◌, refl, sym, ap}
+use mathlib.Core.Path.{◌≡◌, refl, sym, ap, subst}
 use mathlib.Core.Bool.{true, false}
 use mathlib.Core.Logic.{◌≢◌}
 use native.Mathlib.Omega.{arith}
 use native.Mathlib.Decide.{ℕ_discrete}
+use Rattle.std.specs.Prelude.{Some, Result, Ok}
+use Rattle.std.proofs.lemmas.Option.{same_Some}
 use Rattle.waker.specs.Context.{thread}
 use Rattle.waker.specs.Wakers.{word_of}
 use Rattle.waker.specs.declared.context.Thread.{Thread}
@@ -15,15 +17,16 @@ use Rattle.channel.specs.declared.answer.Tick.{Tick}
 use Rattle.channel.specs.declared.answer.Answer.{Answer}
 use Rattle.schedule.specs.Record.{place_of, with_thread}
 use Rattle.schedule.specs.History.{Act, begins, takes, Moment, updated}
-use Rattle.places.specs.Begin.{code_of, started_zero}
+use Rattle.bounds.specs.declared.flavour.Flavour.TheVariants as flavour
+use Rattle.places.specs.Begin.{code_of, zero_call, started}
+use Rattle.places.proofs.StartLaws.{Begins, begins as starts}
 use Rattle.forms.specs.FormWaits.{awaits}
 use Rattle.places.specs.declared.begin.Code.{Code}
-use Rattle.places.specs.declared.begin.Code.TheVariants.{Unknown, TrySend, TryReceive, Send, Receive, Len, IsEmpty, IsFull, IsDisconnected, Disconnect}
-use Rattle.places.specs.declared.begin.Start.TheVariants.{At}
+use Rattle.places.specs.declared.begin.Code.TheVariants.{TrySend, TryReceive, Send, Receive, Len, IsEmpty, IsFull, IsDisconnected, Disconnect}
+use Rattle.places.specs.declared.begin.UnknownCode.{UnknownCode}
 use Rattle.places.specs.declared.place.Place.{Place}
-use Rattle.places.specs.declared.place.Place.TheVariants.{Idle, Done}
+use Rattle.places.specs.declared.place.Place.TheVariants.{Idle, Zero, Done}
 use Rattle.schedule.specs.declared.record.Record.{Record}
-use Rattle.grown.proofs.Starts.{at_place, never, begun_at}
 use Rattle.grown.proofs.Scene.{here}
 use Rattle.handover.specs.Meetings.{Past, begun_call}
 use Rattle.handover.proofs.Inv.{AtPlace, Inv}
@@ -91,25 +94,24 @@ module _ (M : Moment Past) (I : Inv M) where
 
   -- A call begins at its first place.
   module _ (t : Thread) (m : ℕ) (d : Tick) (p : Place) where
-    abbrev after : Code → Moment Past
+    abbrev after : Result Code UnknownCode → Moment Past
     after c = record { now = with_thread M.now t.0 p; past = begun_call M.past t.0 c m d.0 }
 
     begun : {A : Type 0} (f : ℕ → A) (x : A) → updated f t.0 x t.0 ≡ x
     begun f x = updated_here f t.0 x
 
-    opens : (c : Code) → started_zero c m d ≡ At p → AtPlace (after c) t.0 p
-    opens Unknown e = absurd (never p e)
-    opens TrySend e = rw (← begun_at d _ p e) (begun _ _, sym (begun _ _), begun _ _)
-    opens TryReceive e = rw (← begun_at d _ p e) (begun _ _, sym (begun _ _), begun _ _)
-    opens Send e = rw (← at_place _ p e) (begun _ _, sym (begun _ _), (begun _ _, sym (begun _ _)))
-    opens Receive e = rw (← at_place _ p e) (begun _ _, sym (begun _ _), (begun _ _, sym (begun _ _)))
-    opens Len e = rw (← begun_at d _ p e) (begun _ _, begun _ _)
-    opens IsEmpty e = rw (← begun_at d _ p e) (begun _ _, begun _ _)
-    opens IsFull e = rw (← begun_at d _ p e) (begun _ _, begun _ _)
-    opens IsDisconnected e = rw (← begun_at d _ p e) (begun _ _, begun _ _)
-    opens Disconnect e = rw (← begun_at d _ p e) (begun _ _, begun _ _)
+    opens : (c : Code) → AtPlace (after (Ok c)) t.0 (Zero (zero_call c m d))
+    opens TrySend = (begun _ _, sym (begun _ _), begun _ _)
+    opens TryReceive = (begun _ _, sym (begun _ _), begun _ _)
+    opens Send = (begun _ _, sym (begun _ _), (begun _ _, sym (begun _ _)))
+    opens Receive = (begun _ _, sym (begun _ _), (begun _ _, sym (begun _ _)))
+    opens Len = (begun _ _, begun _ _)
+    opens IsEmpty = (begun _ _, begun _ _)
+    opens IsFull = (begun _ _, begun _ _)
+    opens IsDisconnected = (begun _ _, begun _ _)
+    opens Disconnect = (begun _ _, begun _ _)
 
-    pub begin_all : (c : ℕ) → t.0 < M.now.count → place_of M.now t.0 ≡ Idle → started_zero (code_of c) m d ≡ At p →
+    pub begin_all : (c : ℕ) → t.0 < M.now.count → place_of M.now t.0 ≡ Idle → started flavour.Zero c m d ≡ Some p →
         Kept M (after (code_of c)) (begins t c m d)
     begin_all c there at e =
         moves t there Idle at (λ σ. refl) p (begun_call M.past t.0 (code_of c) m d.0) (begins t c m d)
@@ -128,4 +130,7 @@ module _ (M : Moment Past) (I : Inv M) where
           flag = λ f. f;
           clock = omega arith;
         })
-        (λ u n σ d W. omega arith) (opens (code_of c) e)
+        (λ u n σ d W. omega arith) (rw b.named (subst (AtPlace (after (Ok b.code)) t.0) (same_Some _ p b.first) (opens b.code)))
+      where
+        b : Begins flavour.Zero c m d p
+        b = starts flavour.Zero c m d p e

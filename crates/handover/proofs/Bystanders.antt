@@ -24,9 +24,10 @@ use Rattle.zero.specs.declared.call.ZeroCall.TheVariants.{Ask}
 use Rattle.zero.specs.declared.outcome.ZeroEffect.{ZeroEffect}
 use Rattle.zero.specs.declared.outcome.ZeroEffect.TheVariants as effect
 use Rattle.zero.specs.ZeroOutcome.{ZeroOutcome}
-use Rattle.schedule.specs.Record.{place_of, place_after_zero}
+use Rattle.schedule.specs.Record.{place_of}
 use Rattle.forms.specs.FormWaits.{times_in}
 use Rattle.schedule.specs.History.{steps, Moment, updated}
+use Rattle.places.specs.Place.{place_after}
 use Rattle.places.specs.declared.place.Place.TheVariants.{Zero}
 use Rattle.grown.proofs.Turning.{Turned, stays, turns, turned_both}
 use Rattle.grown.proofs.ZeroMemory.{word_else, packet_else, same_words, at_queue, same_list}
@@ -173,7 +174,7 @@ module _ (M : Moment Past) (t : Thread) (k : ZeroCall) (at : place_of M.now t.0 
     pub same : Same M (step_to M t k o) (steps t) u
     same =
         record {
-          place = elsewhere M.now t.0 (place_after_zero o.next) u apart;
+          place = elsewhere M.now t.0 (place_after Zero o.next) u apart;
           word = L.word;
           packet = L.packet;
           ahead = L.ahead;

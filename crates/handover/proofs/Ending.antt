@@ -7,6 +7,7 @@ use mathlib.Core.List.{[], ◌∷◌}
 use native.Mathlib.Omega.{arith}
 use lib.Dec.{leb}
 use borrow.Author.Tests.{leb-true}
+use Rattle.std.specs.Prelude.{Some}
 use Rattle.waker.specs.Context.{try_selected}
 use Rattle.waker.specs.declared.context.Thread.{Thread}
 use Rattle.waker.specs.declared.context.Selected.{Selected}
@@ -25,7 +26,6 @@ use Rattle.zero.specs.ZeroOutcome.{ZeroOutcome}
 use Rattle.schedule.specs.Record.{place_of}
 use Rattle.schedule.specs.History.{Moment}
 use Rattle.places.specs.declared.place.Place.TheVariants.{Zero}
-use Rattle.grown.proofs.Departures.{unlike}
 use Rattle.grown.proofs.Scene.{Scene, my_word, my_packet}
 use Rattle.handover.specs.Meetings.{Past, wait_code, pair_of, word_at, packet_of}
 use Rattle.handover.specs.Statement.{Tells}
@@ -61,7 +61,7 @@ module _ (M : Moment Past) (I : Inv M) (t : Thread) (there : t.0 < M.now.count) 
         After M I t there (Wait σ d) at late
     aborts w over =
         alone M I t there (Wait σ d) at late (λ u. tt) (λ u τ c n W. refl)
-        (λ τ a p r. absurd (unlike p (rw w))) (
+        (λ τ a p r. cc) (
           mine.0.0,
           rw (my_word _ _ t H M.now.zero.wakers.contexts (try_selected (word_at M.now t.0) word.Aborted) refl, w)
               (record {
@@ -81,7 +81,7 @@ module _ (M : Moment Past) (I : Inv M) (t : Thread) (there : t.0 < M.now.count) 
     gives_up : word_at M.now t.0 ≡ word.Disconnected → After M I t there (Wait σ d) at cut
     gives_up w =
         alone M I t there (Wait σ d) at cut (λ u. tt) (λ u τ c n W. refl)
-        (λ τ a p r. absurd (unlike p (rw w))) (
+        (λ τ a p r. cc) (
           mine.0.0,
           rw w
               (record {
@@ -128,7 +128,7 @@ module _ (M : Moment Past) (I : Inv M) (t : Thread) (there : t.0 < M.now.count) 
 
   module _ (at : place_of M.now t.0 ≡ Zero (ReadyWait σ)) where
     -- The mark is set: what passed is the message of the pair.
-    met : (ρ : Side) (u m : ℕ) → M.past.code t.0 ≡ wait_code ρ → Chosen M t.0 ρ u m 1 →
+    met : (ρ : Side) (u m : ℕ) → M.past.code t.0 ≡ Some (wait_code ρ) → Chosen M t.0 ρ u m 1 →
         (packet_of M.now t.0).ready ≡ true → Tells M t.0 (met_by ρ (packet_of M.now t.0).message)
     met Sender u m c C r = (inr c, (u, C.pair ∙ ap (λ (x : ℕ). pair_of u x ∷ []) (C.own refl)))
     met Receiver u m c C r = (inr c, (u, C.pair ∙ ap (λ (x : ℕ). pair_of u x ∷ []) (sym (C.message r refl))))

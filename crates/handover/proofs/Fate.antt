@@ -7,6 +7,7 @@ use native.Mathlib.Omega.{arith}
 use native.Mathlib.Decide.{ℕ_discrete}
 use lib.Dec.{leb}
 use borrow.Author.Tests.{leb-true}
+use Rattle.std.specs.Prelude.{Some}
 use Rattle.waker.specs.Context.{thread, try_selected}
 use Rattle.waker.specs.Wakers.{other_side, selected_in}
 use Rattle.waker.specs.declared.context.Thread.{Thread}
@@ -23,10 +24,8 @@ use Rattle.zero.specs.declared.outcome.ZeroEffect.TheVariants as effect
 use Rattle.channel.specs.declared.outcome.Next.TheVariants.{Goes}
 use Rattle.zero.specs.ZeroOutcome.{ZeroOutcome}
 use Rattle.schedule.specs.Record.{place_of}
-use Rattle.forms.specs.FormWaits.{awaits, partner_of, times_in}
+use Rattle.forms.specs.FormWaits.{awaits, partner, partner_of, times_in}
 use Rattle.schedule.specs.History.{Act, steps, Moment, next}
-use Rattle.forms.specs.declared.waits.Partner.TheVariants.{Of}
-use Rattle.grown.proofs.Departures.{unlike}
 use Rattle.grown.proofs.Scene.{my_word}
 use Rattle.grown.proofs.ZeroKept.{KeptZero}
 use Rattle.grown.proofs.ZeroMemory.{same_list}
@@ -69,8 +68,8 @@ module _ (M : Moment Past) (I : Inv M) where
         go (keeps e) = waits_on_still (record { place = S.place ∙ W.place; word = e ∙ W.word })
         go (cuts e f C) = cut_off C.who C.does C.place f
     other a N (picks u o l e at q w g x) =
-        record { fate = is_picked_first u o l e at (opposite o q) g x; fewer = λ still. absurd (unlike x (rw still.word)) }
-    other a N (serves u ρ e p) = absurd (unlike (named M I u.0 ρ (thread t) p).word (rw W.word))
+        record { fate = is_picked_first u o l e at (opposite o q) g x; fewer = λ still. cc (x, still.word) }
+    other a N (serves u ρ e p) = cc ((named M I u.0 ρ (thread t) p).word, W.word)
 
     module _ (there : t < M.now.count) where
       abbrev Own : ZeroOutcome → Type 0
@@ -124,9 +123,9 @@ module _ (M : Moment Past) (I : Inv M) where
 
   -- A picked waiter is touched by its own step and its partner's alone.
   pub alone : (t : ℕ) (σ : Side) → awaits σ (place_of M.now t) ≡ true → word_at M.now t ≡ word.Picked → (a : Act) →
-      a ≢ steps (thread t) → ((u : Thread) → a ≡ steps u → partner_of (place_of M.now u.0) ≢ Of σ (thread t)) →
+      a ≢ steps (thread t) → ((u : Thread) → a ≡ steps u → partner_of (place_of M.now u.0) ≢ Some (partner σ (thread t))) →
       Untouched M (next rule M a) t
-  alone t σ runs picked a n partner = go ((every_call M I a).others t σ runs n)
+  alone t σ runs picked a n mate = go ((every_call M I a).others t σ runs n)
     where
       left : Same M (next rule M a) a t → word_at (next rule M a).now t ≡ word_at M.now t → Untouched M (next rule M a) t
       left S e = record { place = S.place; word = e; packet = S.packet; pairs = S.pairs; since = S.since }
@@ -135,11 +134,11 @@ module _ (M : Moment Past) (I : Inv M) where
           Word (Cut M a (next rule M a).now.zero.disconnected) (word_at M.now t) (word_at (next rule M a).now t) →
           Untouched M (next rule M a) t
       unturned S (keeps e) = left S e
-      unturned S (cuts e f C) = absurd (unlike picked (rw e))
+      unturned S (cuts e f C) = cc
 
       go : Touch M (next rule M a) a t → Untouched M (next rule M a) t
       go (spares S) = unturned S S.word
-      go (picks u o l e at q w g x) = absurd (unlike picked (rw w))
+      go (picks u o l e at q w g x) = cc
       go (serves u ρ e p) =
           let s : ρ ≡ σ = awaits_once ρ σ (place_of M.now t) (named M I u.0 ρ (thread t) p).waits runs in
-          absurd (partner u e (p ∙ ap (λ (τ : Side). Of τ (thread t)) s))
+          absurd (mate u e (p ∙ ap (λ (τ : Side). Some (partner τ (thread t))) s))

@@ -3,6 +3,7 @@ use Prim.Native.Nat.{ℕ, ◌+◌, ◌≤◌}
 use mathlib.Core.Path.{◌≡◌}
 use mathlib.Core.Bool.{true}
 use mathlib.Core.List.{[], ◌∷◌}
+use Rattle.std.specs.Prelude.{Some}
 use Rattle.waker.specs.Wakers.{other_side}
 use Rattle.waker.specs.declared.context.Thread.{Thread}
 use Rattle.waker.specs.declared.context.Selected.{Selected}
@@ -30,8 +31,8 @@ module _ (M : Moment Past) (t : ℕ) where
 
   -- A send's or receive's code is of its side; one that may wait knows its deadline.
   abbrev pub Limited : Side → Limit → Type 0
-  Limited σ Try = M.past.code t ≡ try_code σ
-  Limited σ (Until d) = (M.past.code t ≡ wait_code σ) × (d.0 ≡ M.past.deadline t)
+  Limited σ Try = M.past.code t ≡ Some (try_code σ)
+  Limited σ (Until d) = (M.past.code t ≡ Some (wait_code σ)) × (d.0 ≡ M.past.deadline t)
 
   -- t and v, of side σ, are each other's only partner, with m the message of the one that sends; t has made n steps since it picked.
   pub record Joint (σ : Side) (v : Thread) (m n : ℕ) : Type 0 where
@@ -83,9 +84,9 @@ module _ (M : Moment Past) (t : ℕ) where
   AtCall (Take v) = Joint Sender v (packet_of M.now v.0).message 0
   AtCall (TakeReady v m) = Joint Sender v m 1
   AtCall (Wait σ d) = Limited σ (Until d) × AtWait σ (word_at M.now t)
-  AtCall (ReadyWait σ) = (u m : ℕ) × (M.past.code t ≡ wait_code σ) × Chosen σ u m 1
-  AtCall (Leave σ) = (M.past.code t ≡ wait_code σ) × AtLeave σ (word_at M.now t)
-  AtCall (Ask q) = (M.past.code t ≡ ask_code q) × Unpaired M t
+  AtCall (ReadyWait σ) = (u m : ℕ) × (M.past.code t ≡ Some (wait_code σ)) × Chosen σ u m 1
+  AtCall (Leave σ) = (M.past.code t ≡ Some (wait_code σ)) × AtLeave σ (word_at M.now t)
+  AtCall (Ask q) = (M.past.code t ≡ Some (ask_code q)) × Unpaired M t
 
   abbrev pub AtPlace : Place → Type 0
   AtPlace Idle = Unit

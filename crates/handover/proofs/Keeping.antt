@@ -9,16 +9,16 @@ use Rattle.waker.specs.Context.{thread}
 use Rattle.waker.specs.declared.context.Thread.{Thread}
 use Rattle.waker.specs.declared.context.Selected.TheVariants as word
 use Rattle.waker.specs.declared.wakers.Side.{Side}
-use Rattle.std.specs.Prelude.{None}
+use Rattle.std.specs.Prelude.{None, Some}
 use Rattle.channel.specs.declared.answer.Tick.{Tick}
 use Rattle.zero.specs.declared.call.ZeroCall.{ZeroCall}
 use Rattle.zero.specs.declared.call.ZeroCall.TheVariants.{Wait}
 use Rattle.channel.specs.declared.outcome.Next.{Next}
 use Rattle.zero.specs.ZeroOutcome.{ZeroOutcome}
-use Rattle.schedule.specs.Record.{place_of, place_after_zero}
+use Rattle.schedule.specs.Record.{place_of}
 use Rattle.schedule.specs.History.{steps, Moment}
-use Rattle.forms.specs.FormWaits.{awaits, partner_of}
-use Rattle.forms.specs.declared.waits.Partner.TheVariants.{Of}
+use Rattle.forms.specs.FormWaits.{awaits, partner, partner_of}
+use Rattle.places.specs.Place.{place_after}
 use Rattle.places.specs.declared.place.Place.TheVariants.{Zero}
 use Rattle.handover.specs.Meetings.{Past, opposes, word_at, packet_of}
 use Rattle.handover.specs.Statement.{Waits}
@@ -43,7 +43,7 @@ module _ (M : Moment Past) (I : Inv M) (t : Thread) (there : t.0 < M.now.count) 
     N = step_to M t k o
 
     -- Of t itself, and of every other.
-    together : AtPlace N t.0 (place_after_zero o.next) → ((u : ℕ) → u ≢ t.0 → AtPlace N u (place_of N.now u)) →
+    together : AtPlace N t.0 (place_after Zero o.next) → ((u : ℕ) → u ≢ t.0 → AtPlace N u (place_of N.now u)) →
         ((u : ℕ) → u ≢ t.0 → Touch M N (steps t) u) → After o
     together own others touched =
         record {
@@ -68,13 +68,13 @@ module _ (M : Moment Past) (I : Inv M) (t : Thread) (there : t.0 < M.now.count) 
         (packet_of M.now t.0).ready ≡ false → Mate M N (steps t) t.0
 
     -- So a thread that the effect does not touch, nor its partner, has at its place what it had.
-    stays : Calm → ((u : ℕ) (σ : Side) (v : Thread) → u ≢ t.0 → partner_of (place_of M.now u) ≡ Of σ v →
+    stays : Calm → ((u : ℕ) (σ : Side) (v : Thread) → u ≢ t.0 → partner_of (place_of M.now u) ≡ Some (partner σ v) →
         Spares k o.effect v.0) → (u : ℕ) → u ≢ t.0 → Spares k o.effect u → Load M N (steps t) u →
         AtPlace N u (place_of N.now u)
     stays calm theirs u apart spared load =
         steady M N (steps t) u (same M t k at u apart o spared) load (λ σ v e. mate σ v e (ℕ_discrete v.0 t.0)) (I.self u)
       where
-        mate : (σ : Side) (v : Thread) → partner_of (place_of M.now u) ≡ Of σ v → Dec (v.0 ≡ t.0) → Mate M N (steps t) v.0
+        mate : (σ : Side) (v : Thread) → partner_of (place_of M.now u) ≡ Some (partner σ v) → Dec (v.0 ≡ t.0) → Mate M N (steps t) v.0
         mate σ v e (yes g) =
             let P = named M I u σ v e in
             rw g (calm σ (rw g at P.waits) (rw g at P.word) (rw g at P.ready))
@@ -85,7 +85,7 @@ module _ (M : Moment Past) (I : Inv M) (t : Thread) (there : t.0 < M.now.count) 
     unnamed free σ a w r = cc (free σ)
 
     -- An effect that touches only t.
-    pub alone : ((u : ℕ) → Spares k o.effect u) → Flat → Calm → AtPlace N t.0 (place_after_zero o.next) → After o
+    pub alone : ((u : ℕ) → Spares k o.effect u) → Flat → Calm → AtPlace N t.0 (place_after Zero o.next) → After o
     alone spared flat calm own =
         together own
         (λ u n. stays calm (λ x σ v m e. spared v.0) u n (spared u) (unopposed u n (spared u) flat))
@@ -93,17 +93,17 @@ module _ (M : Moment Past) (I : Inv M) (t : Thread) (there : t.0 < M.now.count) 
 
     -- An effect that touches also v, whom nobody else names: v is picked then.
     module _ (ρ : Side) (v : Thread) (m : ℕ) (spared : (u : ℕ) → u ≢ v.0 → Spares k o.effect u)
-        (ours : (u : ℕ) (σ : Side) (x : Thread) → u ≢ t.0 → partner_of (place_of M.now u) ≡ Of σ x → x.0 ≢ v.0)
+        (ours : (u : ℕ) (σ : Side) (x : Thread) → u ≢ t.0 → partner_of (place_of M.now u) ≡ Some (partner σ x) → x.0 ≢ v.0)
         (load : (u : ℕ) → u ≢ t.0 → u ≢ v.0 → Load M N (steps t) u) (touched : Touch M N (steps t) v.0) where
       pub partnered : Calm → awaits ρ (place_of M.now v.0) ≡ true → word_at N.now v.0 ≡ word.Picked →
           SameCall M N v.0 → Chosen N v.0 ρ t.0 m 0 →
-          AtPlace N t.0 (place_after_zero o.next) → After o
+          AtPlace N t.0 (place_after Zero o.next) → After o
       partnered calm waits picked alike C own =
           together own (λ u n. go u n (ℕ_discrete u v.0)) (λ u n. touches u n (ℕ_discrete u v.0))
         where
           go : (u : ℕ) → u ≢ t.0 → Dec (u ≡ v.0) → AtPlace N u (place_of N.now u)
           go u n (yes e) =
-              rw (elsewhere M.now t.0 (place_after_zero o.next) u n)
+              rw (elsewhere M.now t.0 (place_after Zero o.next) u n)
               (rw e (picked_at M N v.0 ρ t.0 m C picked alike (place_of M.now v.0) waits (I.self v.0)))
           go u n (no f) = stays calm (λ y σ x away e. spared x.0 (ours y σ x away e)) u n (spared u f) (load u n f)
 
@@ -112,7 +112,7 @@ module _ (M : Moment Past) (I : Inv M) (t : Thread) (there : t.0 < M.now.count) 
           touches u n (no f) = spares (same M t k at u n o (spared u f))
 
   -- Nothing is written.
-  pub quiet : (n : Next ZeroCall) → Flat → AtPlace (step_to M t k (record { next = n; effect = None })) t.0 (place_after_zero n) →
+  pub quiet : (n : Next ZeroCall) → Flat → AtPlace (step_to M t k (record { next = n; effect = None })) t.0 (place_after Zero n) →
       After (record { next = n; effect = None })
   quiet n flat own =
       alone (record { next = n; effect = None }) (λ u. tt) flat (λ σ a w r. record { packet = refl; carried = refl; pairs = refl }) own

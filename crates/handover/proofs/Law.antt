@@ -1,15 +1,15 @@
 -- The law at every moment that a history keeps.
 use mathlib.Core.Path.{◌≡◌, refl}
 use mathlib.Core.Logic.{◌⊎◌, inl, inr}
+use Rattle.std.specs.Prelude.{Some}
 use Rattle.waker.specs.declared.context.Thread.{Thread}
 use Rattle.waker.specs.declared.wakers.Side.{Side}
 use Rattle.waker.specs.declared.wakers.Side.TheVariants.{Sender}
 use Rattle.zero.specs.Zero.{packet_for}
 use Rattle.zero.specs.declared.call.ZeroCall.{ZeroCall}
 use Rattle.zero.specs.declared.call.ZeroCall.TheVariants.{Take}
-use Rattle.forms.specs.FormWaits.{zero_partner}
+use Rattle.forms.specs.FormWaits.{zero_partner, partner}
 use Rattle.schedule.specs.History.{Moment}
-use Rattle.forms.specs.declared.waits.Partner.TheVariants.{Of}
 use Rattle.handover.specs.Meetings.{Past}
 use Rattle.handover.specs.Statement.{Holds}
 use Rattle.handover.proofs.Inv.{Inv}
@@ -18,7 +18,7 @@ use Rattle.handover.proofs.Order.{registers, picks}
 use Rattle.handover.proofs.Meeting.{met, further, ends}
 use Rattle.handover.proofs.Fate.{goes_on_here, alone}
 
-loads : (u : Thread) (k : ZeroCall) → (packet_for u k ≡ u) ⊎ ((σ : Side) × (zero_partner k ≡ Of σ (packet_for u k)))
+loads : (u : Thread) (k : ZeroCall) → (packet_for u k ≡ u) ⊎ ((σ : Side) × (zero_partner k ≡ Some (partner σ (packet_for u k))))
 loads u (Take v) = inr (Sender, refl)
 loads u _ = inl refl
 

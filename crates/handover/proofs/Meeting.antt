@@ -1,9 +1,11 @@
 -- A pick's two calls: the further steps of the one that picked, and the last own steps of the one that was picked.
 use Prim.Native.Nat.{ℕ, suc, ◌<◌}
-use mathlib.Core.Path.{◌≡◌, refl, ap, ◌∙◌}
+use mathlib.Core.Path.{◌≡◌, refl, ap, subst, ◌∙◌}
 use mathlib.Core.Bool.{true, false}
 use mathlib.Core.List.{List, [], ◌∷◌}
 use native.Mathlib.Omega.{arith}
+use Rattle.std.specs.Prelude.{Some}
+use Rattle.std.proofs.lemmas.Option.{same_Some}
 use Rattle.waker.specs.declared.context.Thread.{Thread}
 use Rattle.waker.specs.declared.context.Selected.{Selected}
 use Rattle.waker.specs.declared.context.Selected.TheVariants as word
@@ -20,10 +22,11 @@ use Rattle.zero.specs.declared.call.ZeroCall.{ZeroCall}
 use Rattle.zero.specs.declared.call.ZeroCall.TheVariants.{Put, PutReady, Take, TakeReady, Wait, ReadyWait}
 use Rattle.zero.specs.declared.outcome.ZeroEffect.TheVariants as effect
 use Rattle.channel.specs.declared.outcome.Next.TheVariants.{Ends as Ended}
-use Rattle.schedule.specs.Record.{place_of, place_after_zero}
-use Rattle.forms.specs.FormWaits.{is_picked, awaits, zero_partner, partner_of}
+use Rattle.schedule.specs.Record.{place_of}
+use Rattle.forms.specs.declared.waits.Partner.{Partner}
+use Rattle.forms.specs.FormWaits.{is_picked, awaits, zero_partner, partner, partner_of}
 use Rattle.schedule.specs.History.{steps, Moment, next, updated}
-use Rattle.forms.specs.declared.waits.Partner.TheVariants.{Of}
+use Rattle.places.specs.Place.{place_after}
 use Rattle.places.specs.declared.place.Place.{Place}
 use Rattle.places.specs.declared.place.Place.TheVariants.{Zero, Done}
 use Rattle.grown.proofs.ZeroKept.{KeptZero}
@@ -36,11 +39,8 @@ use Rattle.handover.proofs.Waiters.{given}
 use Rattle.handover.proofs.Moments.{step_to, after_step, step_done, stands_at, either}
 
 -- One partner, named twice.
-named : (P : Side → Thread → Type 0) {ρ σ : Side} {w v : Thread} → Of ρ w ≡ Of σ v → P ρ w → P σ v
-named P {ρ} {σ} {w} {v} e h =
-    let a : ρ ≡ σ = cc in
-    let b : w ≡ v = cc in
-    rw (← a, ← b) h
+named : (P : Side → Thread → Type 0) {ρ σ : Side} {w v : Thread} → Some (partner ρ w) ≡ Some (partner σ v) → P ρ w → P σ v
+named P e = subst (λ (x : Partner). P x.side x.thread) (same_Some _ _ e)
 
 same_message : {a b m x : ℕ} {l : List Pair} → l ≡ pair_of a m ∷ [] → l ≡ pair_of b x ∷ [] → x ≡ m
 same_message {a} {b} {m} {x} e f = let g : pair_of b x ≡ pair_of a m = cc in ap (λ (p : Pair). p.message) g
@@ -57,14 +57,14 @@ module _ (M : Moment Past) (I : Inv M) where
   K = I.kept
 
   -- The pair of a call that names its partner.
-  joint : (u : ℕ) (p : Place) (σ : Side) (v : Thread) → AtPlace M u p → partner_of p ≡ Of σ v → (m n : ℕ) × Joint M u σ v m n
+  joint : (u : ℕ) (p : Place) (σ : Side) (v : Thread) → AtPlace M u p → partner_of p ≡ Some (partner σ v) → (m n : ℕ) × Joint M u σ v m n
   joint u (Zero (Put w m)) σ v a e = (m, 0, named (λ σ v. Joint M u σ v m 0) e a)
   joint u (Zero (PutReady w)) σ v a e = (_, 1, named (λ σ v. Joint M u σ v (packet_of M.now w.0).message 1) e a)
   joint u (Zero (Take w)) σ v a e = (_, 0, named (λ σ v. Joint M u σ v (packet_of M.now w.0).message 0) e a)
   joint u (Zero (TakeReady w m)) σ v a e = (m, 1, named (λ σ v. Joint M u σ v m 1) e a)
   joint u _ σ v a e = cc
 
-  pub met : (u : ℕ) (σ : Side) (v : Thread) → partner_of (place_of M.now u) ≡ Of σ v → (m : ℕ) × Met M u σ v m
+  pub met : (u : ℕ) (σ : Side) (v : Thread) → partner_of (place_of M.now u) ≡ Some (partner σ v) → (m : ℕ) × Met M u σ v m
   met u σ v e =
       let (m, n, J) = joint u (place_of M.now u) σ v (I.self u) e in
       let P = K.orderly.picks u σ v e in (
@@ -79,16 +79,16 @@ module _ (M : Moment Past) (I : Inv M) where
     counted : {n : ℕ} → M.past.since u.0 ≡ n → updated M.past.since u.0 (suc (M.past.since u.0)) u.0 ≡ suc n
     counted e = updated_here M.past.since u.0 _ ∙ ap suc e
 
-    leads : (k : ZeroCall) → place_of (after_step M u k).now u.0 ≡ place_after_zero (outcome_of z u M.now.clock k).next
+    leads : (k : ZeroCall) → place_of (after_step M u k).now u.0 ≡ place_after Zero (outcome_of z u M.now.clock k).next
     leads k = stands_at M K u there k (outcome_of z u M.now.clock k)
 
     -- The mark of the partner that u names is set.
-    marked : (σ : Side) (v : Thread) (k : Packet) → partner_of (place_of M.now u.0) ≡ Of σ v →
+    marked : (σ : Side) (v : Thread) (k : Packet) → partner_of (place_of M.now u.0) ≡ Some (partner σ v) →
         (packet_at (with_packet z v k) v).ready ≡ k.ready
     marked σ v k e = ap (λ (p : Packet). p.ready) (given M I u.0 σ v e k)
 
     further_at : (k : ZeroCall) (σ : Side) (v : Thread) → place_of M.now u.0 ≡ Zero k → AtCall M u.0 k →
-        zero_partner k ≡ Of σ v → Met M u.0 σ v m → Makes k σ v
+        zero_partner k ≡ Some (partner σ v) → Met M u.0 σ v m → Makes k σ v
     further_at (Put w x) σ v at a e H =
         named (Makes (Put w x)) e (first a.since (counted a.since) (ap partner_of (leads (Put w x))))
     further_at (PutReady w) σ v at a e H =
@@ -104,11 +104,11 @@ module _ (M : Moment Past) (I : Inv M) where
         (leads (TakeReady w x) ∙ ap (λ (n : ℕ). Done (Received n)) (same_message H.hers a.mine)))
     further_at _ σ v at a e H = cc
 
-  pub further : (u : Thread) (σ : Side) (v : Thread) (m : ℕ) → partner_of (place_of M.now u.0) ≡ Of σ v →
+  pub further : (u : Thread) (σ : Side) (v : Thread) (m : ℕ) → partner_of (place_of M.now u.0) ≡ Some (partner σ v) →
       Met M u.0 σ v m → Accepted M (steps u) → Further M (next rule M (steps u)) u.0 σ v m
   further u σ v m e H = go (place_of M.now u.0) refl (I.self u.0) e
     where
-      go : (p : Place) → place_of M.now u.0 ≡ p → AtPlace M u.0 p → partner_of p ≡ Of σ v → Accepted M (steps u) →
+      go : (p : Place) → place_of M.now u.0 ≡ p → AtPlace M u.0 p → partner_of p ≡ Some (partner σ v) → Accepted M (steps u) →
           Further M (next rule M (steps u)) u.0 σ v m
       go (Zero k) at a e =
           step_done M u k at (λ N. Further M N u.0 σ v m) (λ there. further_at u m there k σ v at a e H)

@@ -26,9 +26,10 @@ use Rattle.zero.specs.declared.call.ZeroCall.TheVariants.{First, Wait}
 use Rattle.zero.specs.declared.outcome.ZeroEffect.TheVariants as effect
 use Rattle.channel.specs.declared.outcome.Next.TheVariants.{Goes}
 use Rattle.zero.specs.ZeroOutcome.{ZeroOutcome}
-use Rattle.schedule.specs.Record.{place_of, place_after_zero}
+use Rattle.schedule.specs.Record.{place_of}
 use Rattle.forms.specs.FormWaits.{times_in}
 use Rattle.schedule.specs.History.{steps, Moment, next}
+use Rattle.places.specs.Place.{place_after}
 use Rattle.places.specs.declared.place.Place.TheVariants.{Zero, Done}
 use Rattle.grown.proofs.Times.{found}
 use Rattle.grown.proofs.ZeroKept.{KeptZero}
@@ -62,7 +63,7 @@ module _ (M : Moment Past) (I : Inv M) where
     done_waits a e = cc
 
     module _ (there : t.0 < M.now.count) where
-      ended : (l : Limit) (x : ZeroOutcome) → (place_after_zero x.next ≡ Zero (Wait σ d) → ⊥) → Joins (step_to M t (First o l) x)
+      ended : (l : Limit) (x : ZeroOutcome) → (place_after Zero x.next ≡ Zero (Wait σ d) → ⊥) → Joins (step_to M t (First o l) x)
       ended l x n e = absurd (n (sym (stands_at M K t there (First o l) x) ∙ e))
 
       alone : (l : Limit) → Joins (step_to M t (First o l) (alone_step o l))

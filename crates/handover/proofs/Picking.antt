@@ -5,7 +5,7 @@ use mathlib.Core.Bool.{Bool, true, false}
 use mathlib.Core.Logic.{◌≢◌}
 use mathlib.Core.List.{List, [], ◌∷◌}
 use native.Mathlib.Omega.{arith}
-use Rattle.std.specs.Prelude.{◌&&◌, if◌then◌else◌}
+use Rattle.std.specs.Prelude.{◌&&◌, if◌then◌else◌, Some}
 use Rattle.waker.specs.Waker.{oldest, queue_of, without}
 use Rattle.waker.specs.Wakers.{other_side}
 use Rattle.waker.specs.declared.context.Thread.{Thread}
@@ -25,14 +25,12 @@ use Rattle.channel.specs.declared.outcome.Next.TheVariants.{Goes}
 use Rattle.zero.specs.ZeroOutcome.{ZeroOutcome}
 use Rattle.schedule.specs.Record.{place_of}
 use Rattle.schedule.specs.History.{steps, Moment, updated}
-use Rattle.forms.specs.FormWaits.{same_side, partner_of, times_in}
-use Rattle.forms.specs.declared.waits.Partner.TheVariants.{Of}
+use Rattle.forms.specs.FormWaits.{same_side, partner, partner_of, times_in}
 use Rattle.places.specs.declared.place.Place.TheVariants.{Zero}
 use Rattle.grown.proofs.Times.{Finds, found}
 use Rattle.grown.proofs.Orderly.{view_on, Picks}
 use Rattle.grown.proofs.Places.{stands_picked}
 use Rattle.grown.proofs.ZeroMemory.{list_here}
-use Rattle.grown.proofs.Departures.{unlike}
 use Rattle.grown.proofs.Scene.{Scene, Good}
 use Rattle.grown.proofs.Meetings.{pick_good}
 use Rattle.handover.specs.Meetings.{Past, Pair, pair_of, sender_of, word_at}
@@ -56,7 +54,7 @@ met_at N t v (Send m) J e h = rw e J
 met_at N t v Receive J e h = rw h J
 
 -- Whom it names.
-names : (o : Offer) (v : Thread) → partner_of (Zero (partner_for o v)) ≡ Of (other_side (side_of o)) v
+names : (o : Offer) (v : Thread) → partner_of (Zero (partner_for o v)) ≡ Some (partner (other_side (side_of o)) v)
 names (Send m) v = refl
 names Receive v = refl
 
@@ -165,8 +163,8 @@ module _ (M : Moment Past) (I : Inv M) (t : Thread) (there : t.0 < M.now.count) 
           omega (arith, c, (same M t (First o l) at u n choosing k).ahead σ q)
 
   -- Nobody else names v: its word was Waiting.
-  ours : (u : ℕ) (σ : Side) (y : Thread) → u ≢ t.0 → partner_of (place_of M.now u) ≡ Of σ y → y.0 ≢ v.0
-  ours u σ y n e s = unlike (rw s at (named M I u σ y e).word) (rw F.waiting)
+  ours : (u : ℕ) (σ : Side) (y : Thread) → u ≢ t.0 → partner_of (place_of M.now u) ≡ Some (partner σ y) → y.0 ≢ v.0
+  ours u σ y n e s = cc (rw s at (named M I u σ y e).word, F.waiting)
 
   pub pick_step : After M I t there (First o l) at choosing
   pick_step =

@@ -8,7 +8,6 @@ use native.Mathlib.Omega.{arith}
 use lib.ListN.{length}
 use lib.Dec.{eqb}
 use borrow.Author.Tests.{eq-eqb, ne_eqb, eqb-true}
-use Rattle.waker.specs.Choice.{choice}
 use Rattle.waker.specs.Context.{thread, word_in}
 use Rattle.waker.specs.Waker.{without, may_pick, oldest}
 use Rattle.waker.specs.declared.context.Thread.{Thread}
@@ -20,7 +19,7 @@ use Rattle.handover.specs.Statement.{ahead_of}
 
 -- Who joins a queue that it doesn't stand in has all of it ahead.
 pub ahead_joined : (t : Thread) (l : List Thread) → times_in t.0 l ≡ 0 → ahead_of t.0 (l ++ (t ∷ [])) ≡ length l
-unfolding ahead_of times_in choice
+unfolding ahead_of times_in
 ahead_joined t [] h = rw (eq-eqb t.0 t.0 refl)
 ahead_joined t (e ∷ l) h = go (eqb e.0 t.0) h (ahead_joined t l)
   where
@@ -31,7 +30,7 @@ ahead_joined t (e ∷ l) h = go (eqb e.0 t.0) h (ahead_joined t l)
     go false h i = ap suc (i (omega arith))
 
 pub ahead_joined_other : (t : Thread) (u : ℕ) (l : List Thread) → 0 < times_in u l → ahead_of u (l ++ (t ∷ [])) ≡ ahead_of u l
-unfolding ahead_of times_in choice
+unfolding ahead_of times_in
 ahead_joined_other t u [] h = absurd (omega arith)
 ahead_joined_other t u (e ∷ l) h = go (eqb e.0 u) h (ahead_joined_other t u l)
   where
@@ -56,7 +55,7 @@ ahead_left v u (e ∷ l) n = go (eqb e.0 v.0) (eqb e.0 u) refl refl (ahead_left 
 -- and one less ahead of those that it stood before.
 pub ahead_less : (v : Thread) (u : ℕ) (l : List Thread) → u ≢ v.0 → ahead_of v.0 l ≤ ahead_of u l → 0 < times_in v.0 l →
     suc (ahead_of u (without v l)) ≤ ahead_of u l
-unfolding ahead_of times_in choice
+unfolding ahead_of times_in
 ahead_less v u [] n h z = absurd (omega arith)
 ahead_less v u (e ∷ l) n h z =
     go (eqb e.0 v.0) (eqb e.0 u) refl refl h z (ahead_less v u l n)
@@ -73,7 +72,7 @@ ahead_less v u (e ∷ l) n h z =
 
 -- Entries with as many ahead are of one thread.
 pub same_entry : (v t : ℕ) (l : List Thread) → 0 < times_in v l → 0 < times_in t l → ahead_of v l ≡ ahead_of t l → v ≡ t
-unfolding times_in ahead_of choice
+unfolding times_in ahead_of
 same_entry v t [] a b e = absurd (omega arith)
 same_entry v t (x ∷ l) a b e = go (eqb x.0 v) (eqb x.0 t) refl refl a b e (same_entry v t l)
   where
@@ -92,7 +91,7 @@ module _ (c : Thread) (ws : List Context) (u : ℕ) (other : u ≢ c.0) (waiting
 
   -- so none of these stands before whom it finds,
   pub oldest_least : (v : Thread) (l : List Thread) → oldest c ws l ≡ Some v → 0 < times_in u l → ahead_of v.0 l ≤ ahead_of u l
-  unfolding ahead_of times_in choice
+  unfolding ahead_of times_in
   oldest_least v [] f h = absurd (omega arith)
   oldest_least v (e ∷ l) f h =
       go (may_pick c ws e) (eqb e.0 u) refl refl f h (oldest_least v l)
@@ -112,7 +111,7 @@ module _ (c : Thread) (ws : List Context) (u : ℕ) (other : u ≢ c.0) (waiting
 
   -- and none stands there if it finds nobody.
   pub oldest_none : (l : List Thread) → oldest c ws l ≡ None → 0 < times_in u l → ⊥
-  unfolding times_in choice
+  unfolding times_in
   oldest_none [] f h = omega arith
   oldest_none (e ∷ l) f h = go (may_pick c ws e) (eqb e.0 u) refl refl f h (oldest_none l)
     where

@@ -5,6 +5,7 @@ use mathlib.Core.Bool.{true, false}
 use mathlib.Core.Logic.{◌≢◌}
 use mathlib.Core.List.{[], ◌∷◌}
 use native.Mathlib.Omega.{arith}
+use Rattle.std.specs.Prelude.{Some}
 use Rattle.waker.specs.declared.context.Thread.{Thread}
 use Rattle.waker.specs.declared.wakers.Side.{Side}
 use Rattle.waker.specs.declared.wakers.Side.TheVariants.{Sender, Receiver}
@@ -19,10 +20,10 @@ use Rattle.zero.specs.declared.call.ZeroCall.TheVariants.{Put, PutReady, Take, T
 use Rattle.zero.specs.declared.outcome.ZeroEffect.TheVariants as effect
 use Rattle.channel.specs.declared.outcome.Next.TheVariants.{Goes, Ends}
 use Rattle.zero.specs.ZeroOutcome.{ZeroOutcome}
-use Rattle.schedule.specs.Record.{place_of, place_after_zero}
+use Rattle.schedule.specs.Record.{place_of}
 use Rattle.schedule.specs.History.{Moment}
-use Rattle.forms.specs.FormWaits.{partner_of}
-use Rattle.forms.specs.declared.waits.Partner.TheVariants.{Of}
+use Rattle.forms.specs.FormWaits.{partner, partner_of}
+use Rattle.places.specs.Place.{place_after}
 use Rattle.places.specs.declared.place.Place.TheVariants.{Zero, Done}
 use Rattle.schedule.specs.declared.record.Record.{Record}
 use Rattle.grown.proofs.Orderly.{view_on, Picks}
@@ -37,7 +38,7 @@ use Rattle.handover.proofs.Waiters.{named, given, SameCall}
 use Rattle.handover.proofs.Keeping.{After, Flat, unopposed, unnamed, partnered}
 
 module _ (M : Moment Past) (I : Inv M) (t : Thread) (there : t.0 < M.now.count) (k : ZeroCall)
-    (at : place_of M.now t.0 ≡ Zero k) (ρ : Side) (v : Thread) (names : partner_of (Zero k) ≡ Of ρ v)
+    (at : place_of M.now t.0 ≡ Zero k) (ρ : Side) (v : Thread) (names : partner_of (Zero k) ≡ Some (partner ρ v))
     (flat : Flat M I t there k at) (m n : ℕ) (J : Joint M t.0 ρ v m n) where
   P : Picks (view_on M.now.zero M.now.threads) t.0 ρ v
   P = named M I t.0 ρ v (rw at names)
@@ -50,7 +51,7 @@ module _ (M : Moment Past) (I : Inv M) (t : Thread) (there : t.0 < M.now.count) 
   serve : (o : ZeroOutcome) → ((u : ℕ) → u ≢ v.0 → Spares k o.effect u) →
       word_at (step_to M t k o).now v.0 ≡ word_at M.now v.0 →
       SameCall M (step_to M t k o) v.0 → Chosen (step_to M t k o) v.0 ρ t.0 m 0 →
-      AtPlace (step_to M t k o) t.0 (place_after_zero o.next) → After M I t there k at o
+      AtPlace (step_to M t k o) t.0 (place_after Zero o.next) → After M I t there k at o
   serve o spared word alike C own =
       partnered M I t there k at o ρ v m spared
       (λ u σ x apart e s. apart (I.kept.orderly.sole u t.0 σ ρ x v e (rw at names) s))

@@ -2,6 +2,7 @@
 use Prim.Native.Nat.{ℕ, ◌+◌, ◌≤◌}
 use mathlib.Core.Path.{◌≡◌, refl, sym, ap, ◌∙◌}
 use native.Mathlib.Omega.{arith}
+use Rattle.std.specs.Prelude.{Some}
 use Rattle.waker.specs.declared.context.Thread.{Thread}
 use Rattle.waker.specs.declared.context.Selected.{Selected}
 use Rattle.waker.specs.declared.context.Selected.TheVariants as word
@@ -17,10 +18,9 @@ use Rattle.zero.specs.declared.call.Limit.TheVariants.{Try, Until}
 use Rattle.zero.specs.declared.call.ZeroCall.TheVariants.{First, Put, PutReady, Take, TakeReady, Wait, ReadyWait, Leave, Ask}
 use Rattle.schedule.specs.Record.{place_of}
 use Rattle.schedule.specs.History.{Act, Moment}
-use Rattle.forms.specs.FormWaits.{partner_of}
-use Rattle.forms.specs.declared.waits.Partner.TheVariants.{Of}
+use Rattle.forms.specs.FormWaits.{partner, partner_of}
 use Rattle.places.specs.declared.place.Place.{Place}
-use Rattle.places.specs.declared.place.Place.TheVariants.{Idle, Array, Zero, Done}
+use Rattle.places.specs.declared.place.Place.TheVariants.{Zero, Done}
 use Rattle.handover.specs.Meetings.{Past, sender_of, word_at, packet_of}
 use Rattle.handover.specs.Statement.{queue_at, ahead_of, Waits, Tells}
 use Rattle.handover.proofs.Inv.{Holding, Limited, Joint, Chosen, Waiter, CutOff, TimedOut, AtWait, AtLeave, AtPlace}
@@ -93,10 +93,9 @@ module _ (M N : Moment Past) (a : Act) where
 
     -- At leave.
     leaves_on : (σ : Side) (w : Selected) → AtLeave M u σ w → AtLeave N u σ w
-    leaves_on σ word.Waiting L = L
-    leaves_on σ word.Picked L = L
     leaves_on σ word.Aborted L = timed σ L
     leaves_on σ word.Disconnected L = cut σ L
+    leaves_on σ _ L = L
 
     leaves : (σ : Side) → AtLeave M u σ (word_at M.now u) → AtLeave N u σ (word_at N.now u)
     leaves σ L = go K.word
@@ -107,14 +106,10 @@ module _ (M N : Moment Past) (a : Act) where
 
     tells : (a : Answer) → Tells M u a → Tells N u a
     tells answer.Sent h = rw (K.code, K.pairs, K.carried) h
-    tells (answer.Received m) h = rw (K.code, K.pairs) h
     tells (answer.Full m) h = rw (K.code, K.pairs, K.carried) h
-    tells answer.Empty h = rw (K.code, K.pairs) h
     tells (answer.Disconnected m) h = rw (K.code, K.pairs, K.carried) (h.0, h.1, h.2, K.flag h.3)
     tells (answer.Timeout m) h = (rw K.code h.0, K.pairs ∙ h.1, h.2 ∙ sym K.carried, later h.3)
-    tells (answer.Number n) h = rw (K.code, K.pairs) h
-    tells answer.Yes h = rw (K.code, K.pairs) h
-    tells answer.No h = rw (K.code, K.pairs) h
+    tells _ h = rw (K.code, K.pairs) h
 
     sender_same : (σ : Side) (v : ℕ) → Mate v → N.past.carried (sender_of σ u v) ≡ M.past.carried (sender_of σ u v)
     sender_same Sender v Q = Q.carried
@@ -134,10 +129,8 @@ module _ (M N : Moment Past) (a : Act) where
         Joint N u σ v (packet_of N.now v.0).message n
     joint_message σ v n Q J = rw Q.packet (joint σ v _ n Q J)
 
-    on : Load u → (p : Place) → place_of M.now u ≡ p → ((σ : Side) (v : Thread) → partner_of p ≡ Of σ v → Mate v.0) →
+    on : Load u → (p : Place) → place_of M.now u ≡ p → ((σ : Side) (v : Thread) → partner_of p ≡ Some (partner σ v) → Mate v.0) →
         AtPlace M u p → AtPlace N u p
-    on L Idle e mate h = tt
-    on L (Array k) e mate h = h
     on L (Zero (First o l)) e mate h = (K.pairs ∙ h.0, h.1 ∙ sym K.carried, limited (side_of o) l h.2)
     on L (Zero (Put v m)) e mate h = joint Receiver v m 0 (mate Receiver v refl) h
     on L (Zero (PutReady v)) e mate h = joint_message Receiver v 1 (mate Receiver v refl) h
@@ -148,7 +141,8 @@ module _ (M N : Moment Past) (a : Act) where
     on L (Zero (Leave σ)) e mate h = (K.code ∙ h.0, leaves σ h.1)
     on L (Zero (Ask q)) e mate h = (K.code ∙ h.0, K.pairs ∙ h.1)
     on L (Done a) e mate h = tells a h
+    on L _ e mate h = h
 
-    pub steady : Load u → ((σ : Side) (v : Thread) → partner_of (place_of M.now u) ≡ Of σ v → Mate v.0) →
+    pub steady : Load u → ((σ : Side) (v : Thread) → partner_of (place_of M.now u) ≡ Some (partner σ v) → Mate v.0) →
         AtPlace M u (place_of M.now u) → AtPlace N u (place_of N.now u)
     steady L mate h = rw K.place (on L (place_of M.now u) refl mate h)

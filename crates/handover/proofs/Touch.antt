@@ -3,6 +3,7 @@ use Prim.Native.Nat.{ℕ, ◌<◌, ◌≤◌}
 use mathlib.Core.Path.{◌≡◌}
 use mathlib.Core.Bool.{Bool, true}
 use mathlib.Core.Logic.{◌≢◌}
+use Rattle.std.specs.Prelude.{Some}
 use Rattle.waker.specs.Context.{thread}
 use Rattle.waker.specs.Wakers.{other_side}
 use Rattle.waker.specs.declared.context.Thread.{Thread}
@@ -15,9 +16,8 @@ use Rattle.zero.specs.declared.call.Limit.{Limit}
 use Rattle.zero.specs.declared.call.Question.TheVariants.{Disconnect}
 use Rattle.zero.specs.declared.call.ZeroCall.TheVariants.{First, Ask}
 use Rattle.schedule.specs.Record.{place_of}
-use Rattle.forms.specs.FormWaits.{awaits, partner_of, times_in}
+use Rattle.forms.specs.FormWaits.{awaits, partner, partner_of, times_in}
 use Rattle.schedule.specs.History.{Act, steps, Moment}
-use Rattle.forms.specs.declared.waits.Partner.TheVariants.{Of}
 use Rattle.places.specs.declared.place.Place.TheVariants.{Zero}
 use Rattle.handover.specs.Meetings.{Past, word_at, packet_of}
 use Rattle.handover.specs.Statement.{queue_at, ahead_of}
@@ -56,7 +56,7 @@ pub data Touch (M N : Moment Past) (a : Act) (v : ℕ) : Type 0 where
   picks : (u : Thread) (o : Offer) (l : Limit) → a ≡ steps u → place_of M.now u.0 ≡ Zero (First o l) →
       0 < times_in v (queue_at M.now (other_side (side_of o))) → word_at M.now v ≡ word.Waiting →
       place_of N.now u.0 ≡ Zero (partner_for o (thread v)) → word_at N.now v ≡ word.Picked → Touch M N a v
-  serves : (u : Thread) (σ : Side) → a ≡ steps u → partner_of (place_of M.now u.0) ≡ Of σ (thread v) → Touch M N a v
+  serves : (u : Thread) (σ : Side) → a ≡ steps u → partner_of (place_of M.now u.0) ≡ Some (partner σ (thread v)) → Touch M N a v
 
 -- What is shown of every call: what holds at all places holds on, and what is left of those that await.
 pub record Kept (M N : Moment Past) (a : Act) : Type 0 where

@@ -4,6 +4,7 @@ use mathlib.Core.Path.{◌≡◌, sym, ◌∙◌}
 use mathlib.Core.Bool.{true}
 use mathlib.Core.Logic.{inl, inr}
 use native.Mathlib.Omega.{arith}
+use Rattle.std.specs.Prelude.{Some}
 use Rattle.waker.specs.declared.context.Thread.{Thread}
 use Rattle.waker.specs.declared.context.Selected.TheVariants as word
 use Rattle.waker.specs.declared.wakers.Side.{Side}
@@ -14,8 +15,7 @@ use Rattle.zero.specs.declared.call.Limit.{Limit}
 use Rattle.zero.specs.declared.call.Limit.TheVariants.{Try, Until}
 use Rattle.schedule.specs.Record.{place_of}
 use Rattle.schedule.specs.History.{Moment}
-use Rattle.forms.specs.FormWaits.{queued_at, awaits, partner_of, times_in}
-use Rattle.forms.specs.declared.waits.Partner.TheVariants.{Of}
+use Rattle.forms.specs.FormWaits.{queued_at, awaits, partner, partner_of, times_in}
 use Rattle.places.specs.declared.place.Place.{Place}
 use Rattle.grown.proofs.Orderly.{view_on, Picks}
 use Rattle.grown.proofs.Places.{waiting_there, stands_queued, stands_waiting}
@@ -28,12 +28,12 @@ use Rattle.handover.proofs.Sides.{Awaits, at_wait, at_ready, awaiting}
 
 module _ (M : Moment Past) (I : Inv M) where
   -- Whom a call names is picked, and its mark not set.
-  pub named : (u : ℕ) (σ : Side) (v : Thread) → partner_of (place_of M.now u) ≡ Of σ v →
+  pub named : (u : ℕ) (σ : Side) (v : Thread) → partner_of (place_of M.now u) ≡ Some (partner σ v) →
       Picks (view_on M.now.zero M.now.threads) u σ v
   named = I.kept.orderly.picks
 
   -- So its packet takes what is given to it.
-  pub given : (u : ℕ) (σ : Side) (v : Thread) → partner_of (place_of M.now u) ≡ Of σ v → (k : Packet) →
+  pub given : (u : ℕ) (σ : Side) (v : Thread) → partner_of (place_of M.now u) ≡ Some (partner σ v) → (k : Packet) →
       packet_at (with_packet M.now.zero v k) v ≡ k
   given u σ v e k =
       packet_here M.now.zero v k

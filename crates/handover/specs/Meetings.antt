@@ -1,5 +1,6 @@
 -- What a history has brought about on a rendezvous, read off its accepted calls.
-use Rattle.std.specs.Prelude.{ℕ, suc, Bool, false, ◌&&◌, List, [], ◌∷◌, Option, Some, None, length, if◌then◌else◌}
+use Rattle.std.specs.Prelude.{ℕ, suc, Bool, false, ◌&&◌, List, [], ◌∷◌, Option, Some, None, Result, length, if◌then◌else◌}
+use Rattle.std.specs.Result.{result_ok}
 use Rattle.waker.specs.Context.{thread, is_waiting}
 use Rattle.waker.specs.Wakers.{other_side, listed, word_of}
 use Rattle.waker.specs.declared.context.Selected.{Selected}
@@ -20,6 +21,7 @@ use Rattle.forms.specs.FormWaits.{same_side}
 use Rattle.schedule.specs.History.{Act, begins, steps, fails, advances, takes, Moment, reached, updated}
 use Rattle.places.specs.declared.begin.Code.{Code}
 use Rattle.places.specs.declared.begin.Code.TheVariants as code
+use Rattle.places.specs.declared.begin.UnknownCode.{UnknownCode}
 use Rattle.places.specs.declared.place.Place.{Place}
 use Rattle.places.specs.declared.place.Place.TheVariants.{Idle, Array, Zero, Done}
 use Rattle.schedule.specs.declared.record.Record.{Record}
@@ -38,8 +40,8 @@ pub record Pair : Type 0 where
 
 -- What is remembered of each thread's call.
 pub record Past : Type 0 where
-  -- Its code, the message that it carries, and its deadline, as begun.
-  pub code : ℕ → Code
+  -- Its code (none before the first), the message that it carries, and its deadline, as begun.
+  pub code : ℕ → Option Code
   pub carried : ℕ → ℕ
   pub deadline : ℕ → ℕ
   -- The entries ahead of it when it registered.
@@ -51,10 +53,10 @@ pub record Past : Type 0 where
   -- Its own steps since it picked, or since its ready mark was set.
   pub since : ℕ → ℕ
 
-abbrev pub begun_call : Past → ℕ → Code → ℕ → ℕ → Past
+abbrev pub begun_call : Past → ℕ → Result Code UnknownCode → ℕ → ℕ → Past
 begun_call h t c m d =
     record {
-      code = updated h.code t c;
+      code = updated h.code t (result_ok c);
       carried = updated h.carried t (carried_by c m);
       deadline = updated h.deadline t d;
       entries = h.entries;
@@ -184,7 +186,7 @@ rule r h (takes t) = h
 abbrev pub nothing : Past
 nothing =
     record {
-      code = λ t. code.Unknown;
+      code = λ t. None;
       carried = λ t. 0;
       deadline = λ t. 0;
       entries = λ t. 0;

@@ -1,5 +1,5 @@
 -- Who meets whom, sentence by sentence: for every number of threads and history from a fresh rendezvous.
-use Rattle.std.specs.Prelude.{ℕ, suc, ◌+◌, ◌<◌, ◌≤◌, ◌≡◌, true, false, ◌⊎◌, ◌≢◌, List, [], ◌∷◌, ◌++◌, length, eqb, if◌then◌else◌}
+use Rattle.std.specs.Prelude.{ℕ, suc, ◌+◌, ◌<◌, ◌≤◌, ◌≡◌, true, false, ◌⊎◌, ◌≢◌, Some, None, Ok, List, [], ◌∷◌, ◌++◌, length, eqb, if◌then◌else◌}
 use Rattle.waker.specs.Context.{thread}
 use Rattle.waker.specs.Wakers.{other_side, listed}
 use Rattle.waker.specs.declared.context.Thread.{Thread}
@@ -19,14 +19,12 @@ use Rattle.zero.specs.declared.call.ZeroCall.{ZeroCall}
 use Rattle.zero.specs.declared.call.ZeroCall.TheVariants.{First, Wait, ReadyWait, Leave, Ask}
 use Rattle.schedule.specs.Record.{place_of, accepted_as, refused_with}
 use Rattle.schedule.specs.Making.{made_zero}
-use Rattle.forms.specs.FormWaits.{awaits, zero_partner, partner_of, times_in}
+use Rattle.forms.specs.FormWaits.{awaits, zero_partner, partner, partner_of, times_in}
 use Rattle.schedule.specs.Calls.{failed}
 use Rattle.schedule.specs.History.{Act, steps, act_on, after, Moment, next}
-use Rattle.forms.specs.declared.waits.Partner.TheVariants.{Of}
 use Rattle.places.specs.declared.place.Place.TheVariants.{Zero, Done}
 use Rattle.schedule.specs.declared.record.Record.{Record}
 use Rattle.bounds.specs.declared.refusal.Refusal.{Refusal}
-use Rattle.bounds.specs.declared.refusal.Reply.TheVariants as reply
 use Rattle.handover.specs.Meetings.{Past, try_code, wait_code, ask_code, pair_of, sender_of, word_at, packet_of, rule, moment_after}
 
 -- A side's queue, oldest entry first, and how many entries stand before t in it.
@@ -44,7 +42,7 @@ pub record Waits (r : Record) (t : ℕ) (σ : Side) (d : Tick) : Type 0 where
 
 -- A call is carried out at a moment.
 abbrev pub Accepted : Moment Past → Act → Type 0
-Accepted M a = (act_on M.now a).reply ≡ reply.Done
+Accepted M a = (act_on M.now a).reply ≡ Ok None
 
 -- From M to N thread t has registered: it waits at the end of its side's queue, all others of which are ahead of it.
 pub record Registered (M N : Moment Past) (t : Thread) (σ : Side) (d : Tick) : Type 0 where
@@ -87,7 +85,7 @@ pub record Met (M : Moment Past) (u : ℕ) (σ : Side) (v : Thread) (m : ℕ) : 
 
 -- From M to N it has made one of two further steps; the second sets v's mark and answers.
 pub data Further (M N : Moment Past) (u : ℕ) (σ : Side) (v : Thread) (m : ℕ) : Type 0 where
-  first : M.past.since u ≡ 0 → N.past.since u ≡ 1 → partner_of (place_of N.now u) ≡ Of σ v → Further M N u σ v m
+  first : M.past.since u ≡ 0 → N.past.since u ≡ 1 → partner_of (place_of N.now u) ≡ Some (partner σ v) → Further M N u σ v m
   second : M.past.since u ≡ 1 → (packet_of N.now v.0).ready ≡ true → N.past.since v.0 ≡ 0 →
       place_of N.now u ≡ Done (met_by (other_side σ) m) → Further M N u σ v m
 
@@ -111,10 +109,10 @@ module _ (M : Moment Past) (t : ℕ) where
 
   -- Its code is a send's or a receive's, or a question's.
   abbrev pub OnSide : Side → Type 0
-  OnSide σ = (M.past.code t ≡ try_code σ) ⊎ (M.past.code t ≡ wait_code σ)
+  OnSide σ = (M.past.code t ≡ Some (try_code σ)) ⊎ (M.past.code t ≡ Some (wait_code σ))
 
   abbrev pub Asks : Type 0
-  Asks = (q : Question) × (M.past.code t ≡ ask_code q)
+  Asks = (q : Question) × (M.past.code t ≡ Some (ask_code q))
 
   -- It has one partner, and the message that passed is m.
   abbrev pub Passed : ℕ → Type 0
@@ -127,12 +125,12 @@ module _ (M : Moment Past) (t : ℕ) where
   abbrev pub Tells : Answer → Type 0
   Tells answer.Sent = OnSide Sender × Passed (M.past.carried t)
   Tells (answer.Received m) = OnSide Receiver × Passed m
-  Tells (answer.Full m) = (M.past.code t ≡ try_code Sender) × Unpaired × Back m
-  Tells answer.Empty = (M.past.code t ≡ try_code Receiver) × Unpaired
+  Tells (answer.Full m) = (M.past.code t ≡ Some (try_code Sender)) × Unpaired × Back m
+  Tells answer.Empty = (M.past.code t ≡ Some (try_code Receiver)) × Unpaired
   Tells (answer.Disconnected m) = ((σ : Side) × OnSide σ) × Unpaired × Back m × (M.now.zero.disconnected ≡ true)
   Tells (answer.Timeout m) =
-      ((σ : Side) × (M.past.code t ≡ wait_code σ)) × Unpaired × Back m × (M.past.deadline t ≤ M.now.clock.0)
-  Tells (answer.Number n) = (M.past.code t ≡ ask_code Len) × Unpaired
+      ((σ : Side) × (M.past.code t ≡ Some (wait_code σ))) × Unpaired × Back m × (M.past.deadline t ≤ M.now.clock.0)
+  Tells (answer.Number n) = (M.past.code t ≡ Some (ask_code Len)) × Unpaired
   Tells answer.Yes = Asks × Unpaired
   Tells answer.No = Asks × Unpaired
 
@@ -155,19 +153,19 @@ pub record Holds (M : Moment Past) : Type 0 where
   -- unless its deadline or a disconnect ends it first.
   pub fate : (t : ℕ) (σ : Side) (d : Tick) → Waits M.now t σ d → (a : Act) → Fate M (next rule M a) a t σ d
   -- Once the picking call has made its two further steps,
-  pub met : (u : ℕ) (σ : Side) (v : Thread) → partner_of (place_of M.now u) ≡ Of σ v → (m : ℕ) × Met M u σ v m
-  pub further : (u : Thread) (σ : Side) (v : Thread) (m : ℕ) → partner_of (place_of M.now u.0) ≡ Of σ v →
+  pub met : (u : ℕ) (σ : Side) (v : Thread) → partner_of (place_of M.now u) ≡ Some (partner σ v) → (m : ℕ) × Met M u σ v m
+  pub further : (u : Thread) (σ : Side) (v : Thread) (m : ℕ) → partner_of (place_of M.now u.0) ≡ Some (partner σ v) →
       Met M u.0 σ v m → Accepted M (steps u) → Further M (next rule M (steps u)) u.0 σ v m
   -- the waiter's call ends by its second own step from then,
   pub ends : (t : Thread) (σ : Side) → awaits σ (place_of M.now t.0) ≡ true → (packet_of M.now t.0).ready ≡ true →
       Accepted M (steps t) → (u m : ℕ) × (M.past.pairs t.0 ≡ pair_of u m ∷ []) × Ends M (next rule M (steps t)) t.0 σ m
   -- the message passing between these two calls alone: no call but a step of its own or of its partner touches a picked waiter,
   pub alone : (t : ℕ) (σ : Side) → awaits σ (place_of M.now t) ≡ true → word_at M.now t ≡ word.Picked → (a : Act) →
-      a ≢ steps (thread t) → ((u : Thread) → a ≡ steps u → partner_of (place_of M.now u.0) ≢ Of σ (thread t)) →
+      a ≢ steps (thread t) → ((u : Thread) → a ≡ steps u → partner_of (place_of M.now u.0) ≢ Some (partner σ (thread t))) →
       Untouched M (next rule M a) t
   -- a step loads no packet but its own and its partner's,
   pub loads : (u : Thread) (k : ZeroCall) → place_of M.now u.0 ≡ Zero k →
-      (packet_for u k ≡ u) ⊎ ((σ : Side) × (zero_partner k ≡ Of σ (packet_for u k)))
+      (packet_for u k ≡ u) ⊎ ((σ : Side) × (zero_partner k ≡ Some (partner σ (packet_for u k))))
   -- and a call answers as its code may: Sent or Received exactly when it was paired, once, with the message of the pair's send.
   pub answers : (t : ℕ) (a : Answer) → place_of M.now t ≡ Done a → Tells M t a
 

@@ -1,6 +1,6 @@
 //! The call codes, and the first place of each call.
 ghost use Rattle.std.specs.Prelude.{◌≡◌};
-ghost use Rattle.places.specs.Begin.{code_of, started, started_array, first_section, started_zero, unlimited};
+ghost use Rattle.places.specs.Begin.{code_of, takes, array_call, zero_call, started};
 
 use crate::place::Place;
 use array::call::{ArrayCall, IsEmptyPlace, IsFullPlace, LenPlace, ReceivePlace, SendPlace};
@@ -8,13 +8,13 @@ use bounds::flavour::Flavour;
 use channel::answer::Tick;
 use zero::call::{Limit, Offer, Question, ZeroCall};
 
-/// The deadline that means none.
-pub const NO_DEADLINE: u32 = 0xffff_ffff;
+// Stays a tick that stands for none: a begin spells ffffffff, and a call that waits has it as its deadline.
+/// The deadline that means none: a clock that ends at fffffffe never reaches it.
+pub const NO_DEADLINE: Tick = Tick(0xffff_ffff);
 
 /// What a call code asks for.
-#[derive(Clone, Copy)]
+#[derive(Clone, Copy, Debug, PartialEq, Eq)]
 pub enum Code {
-    Unknown,
     TrySend,
     TryReceive,
     Send,
@@ -26,117 +26,88 @@ pub enum Code {
     Disconnect,
 }
 
-/// The first place of a call, or none where the channel has no such call.
-#[derive(Clone, Copy)]
-pub enum Start {
-    None,
-    At(Place),
+/// A number that is no call's code.
+#[derive(Clone, Copy, Debug, PartialEq, Eq)]
+pub struct UnknownCode(pub u32);
+
+impl TryFrom<u32> for Code {
+    type Error = UnknownCode;
+
+    ghost try_from_gives = { λ number code. code ≡ code_of number };
+
+    // Stays a number: the text spells it, and refusal 7 is for any that names no call.
+    #[tactic(auto, unfolding(crate::specs::Begin::code_of))]
+    fn try_from(number: u32) -> Result<Code, UnknownCode> {
+        match number {
+            1 => Ok(Code::TrySend),
+            2 => Ok(Code::TryReceive),
+            3 => Ok(Code::Send),
+            4 => Ok(Code::Receive),
+            5 => Ok(Code::Len),
+            6 => Ok(Code::IsEmpty),
+            7 => Ok(Code::IsFull),
+            8 => Ok(Code::IsDisconnected),
+            9 => Ok(Code::Disconnect),
+            _ => Err(UnknownCode(number)),
+        }
+    }
 }
 
 impl Code {
-    /// What a number asks for.
-    #[tactic(auto, unfolding(crate::specs::Begin::code_of, waker::specs::Choice::choice))]
-    pub fn of(number: u32) -> Code
-        ensures { result ≡ code_of number }
+    // Stays a tick that stands for none: a begin spells it so, and a call that waits takes it as any other.
+    /// May the call be given this deadline? Only send and receive wait, so any other takes none.
+    fn takes(self, deadline: Tick) -> bool
+        ensures { result ≡ takes self deadline }
     {
-        match number {
-            1 => Code::TrySend,
-            2 => Code::TryReceive,
-            3 => Code::Send,
-            4 => Code::Receive,
-            5 => Code::Len,
-            6 => Code::IsEmpty,
-            7 => Code::IsFull,
-            8 => Code::IsDisconnected,
-            9 => Code::Disconnect,
-            _ => Code::Unknown,
+        matches!(self, Code::Send | Code::Receive) || deadline == NO_DEADLINE
+    }
+
+    /// The first place of a call on an array, which has no call that waits.
+    fn array_call(self, message: u32) -> Option<ArrayCall>
+        ensures { result ≡ array_call self message }
+    {
+        match self {
+            Code::TrySend => Some(ArrayCall::Send(SendPlace::LoadTail { message })),
+            Code::TryReceive => Some(ArrayCall::Receive(ReceivePlace::LoadHead)),
+            Code::Send | Code::Receive => None,
+            Code::Len => Some(ArrayCall::Len(LenPlace::LoadTail)),
+            Code::IsEmpty => Some(ArrayCall::IsEmpty(IsEmptyPlace::LoadHead)),
+            Code::IsFull => Some(ArrayCall::IsFull(IsFullPlace::LoadTail)),
+            Code::IsDisconnected => Some(ArrayCall::IsDisconnected),
+            Code::Disconnect => Some(ArrayCall::Disconnect),
+        }
+    }
+
+    /// The first place of a call on a rendezvous.
+    fn zero_call(self, message: u32, deadline: Tick) -> ZeroCall
+        ensures { result ≡ zero_call self message deadline }
+    {
+        let first = |offer: Offer, limit: Limit| ZeroCall::First { offer, limit };
+        match self {
+            Code::TrySend => first(Offer::Send(message), Limit::Try),
+            Code::TryReceive => first(Offer::Receive, Limit::Try),
+            Code::Send => first(Offer::Send(message), Limit::Until(deadline)),
+            Code::Receive => first(Offer::Receive, Limit::Until(deadline)),
+            Code::Len => ZeroCall::Ask(Question::Len),
+            Code::IsEmpty => ZeroCall::Ask(Question::IsEmpty),
+            Code::IsFull => ZeroCall::Ask(Question::IsFull),
+            Code::IsDisconnected => ZeroCall::Ask(Question::IsDisconnected),
+            Code::Disconnect => ZeroCall::Ask(Question::Disconnect),
         }
     }
 }
 
-/// The place of a call that takes no deadline.
-fn unlimited(deadline: Tick, place: Place) -> Start
-    ensures { result ≡ unlimited deadline place }
-{
-    if deadline.0 == NO_DEADLINE {
-        return Start::At(place);
-    }
-    Start::None
-}
-
-/// The first place of a call on an array.
-fn start_array(code: Code, message: u32, deadline: Tick) -> Start
-    ensures { result ≡ started_array code message deadline }
-{
-    match code {
-        Code::Unknown => Start::None,
-        Code::TrySend => {
-            let place = SendPlace::LoadTail { message };
-            unlimited(deadline, Place::Array(ArrayCall::Send(place)))
-        }
-        Code::TryReceive => {
-            unlimited(
-                deadline,
-                Place::Array(ArrayCall::Receive(ReceivePlace::LoadHead)),
-            )
-        }
-        Code::Send => Start::None,
-        Code::Receive => Start::None,
-        Code::Len => unlimited(deadline, Place::Array(ArrayCall::Len(LenPlace::LoadTail))),
-        Code::IsEmpty => {
-            unlimited(
-                deadline,
-                Place::Array(ArrayCall::IsEmpty(IsEmptyPlace::LoadHead)),
-            )
-        }
-        Code::IsFull => {
-            unlimited(
-                deadline,
-                Place::Array(ArrayCall::IsFull(IsFullPlace::LoadTail)),
-            )
-        }
-        Code::IsDisconnected => unlimited(deadline, Place::Array(ArrayCall::IsDisconnected)),
-        Code::Disconnect => unlimited(deadline, Place::Array(ArrayCall::Disconnect)),
-    }
-}
-
-/// The first section of a send or receive on a rendezvous.
-fn first(offer: Offer, limit: Limit) -> Place
-    ensures { result ≡ first_section offer limit }
-{
-    Place::Zero(ZeroCall::First { offer, limit })
-}
-
-/// The first place of a call on a rendezvous.
-fn start_zero(code: Code, message: u32, deadline: Tick) -> Start
-    ensures { result ≡ started_zero code message deadline }
-{
-    match code {
-        Code::Unknown => Start::None,
-        Code::TrySend => unlimited(deadline, first(Offer::Send(message), Limit::Try)),
-        Code::TryReceive => unlimited(deadline, first(Offer::Receive, Limit::Try)),
-        Code::Send => Start::At(first(Offer::Send(message), Limit::Until(deadline))),
-        Code::Receive => Start::At(first(Offer::Receive, Limit::Until(deadline))),
-        Code::Len => unlimited(deadline, Place::Zero(ZeroCall::Ask(Question::Len))),
-        Code::IsEmpty => unlimited(deadline, Place::Zero(ZeroCall::Ask(Question::IsEmpty))),
-        Code::IsFull => unlimited(deadline, Place::Zero(ZeroCall::Ask(Question::IsFull))),
-        Code::IsDisconnected => {
-            unlimited(
-                deadline,
-                Place::Zero(ZeroCall::Ask(Question::IsDisconnected)),
-            )
-        }
-        Code::Disconnect => unlimited(deadline, Place::Zero(ZeroCall::Ask(Question::Disconnect))),
-    }
-}
-
-/// The first place of a call on a channel.
-pub fn start_on(flavour: Flavour, number: u32, message: u32, deadline: Tick) -> Start
+// Stays a number: the text spells it, and refusal 7 is for any that names no call.
+/// The first place of a call on a channel. None where the channel has no such call, or the call takes no deadline and is given one.
+pub fn start_on(flavour: Flavour, number: u32, message: u32, deadline: Tick) -> Option<Place>
     ensures { result ≡ started flavour number message deadline }
 {
-    let code = Code::of(number);
+    let code = Code::try_from(number).ok()?;
+    if !code.takes(deadline) {
+        return None;
+    }
     match flavour {
-        Flavour::Array => start_array(code, message, deadline),
-        Flavour::Zero => start_zero(code, message, deadline),
+        Flavour::Array => code.array_call(message).map(Place::Array),
+        Flavour::Zero => Some(Place::Zero(code.zero_call(message, deadline))),
     }
 }

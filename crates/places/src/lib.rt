@@ -1,5 +1,5 @@
 //! Where a thread stands, and how its call begins.
-#![tactic(auto, unfolding(waker::specs::Choice::choice))]
+#![tactic(auto)]
 
 pub mod begin;
 pub mod place;

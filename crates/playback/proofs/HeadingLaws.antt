@@ -1,122 +1,102 @@
 -- Laws of a line before a channel was made: what its heading says of its answer, and of the rest of the lines.
 use Prim.Native.Nat.{ℕ, ◌+◌, ◌*◌, ◌≤◌}
-use mathlib.Core.Bool.{Bool, true, false}
+use mathlib.Core.Bool.{Bool, true, false, cond}
 use mathlib.Core.Path.{◌≡◌, refl, ap, sym, subst, ◌∙◌}
 use mathlib.Core.List.{List}
 use native.Mathlib.Omega.{arith}
 use lib.Dec.{eqb}
 use lib.ListN.{length, drop, length-append, length-drop}
 use lib.Seq.{length-take-le}
-use borrow.Author.Tests.{eq-eqb, ne_eqb}
-use Rattle.waker.specs.Choice.{choice, when◌then◌else◌}
 use Rattle.bounds.specs.Limits.{making}
 use Rattle.bounds.specs.declared.flavour.Flavour.TheVariants as flavour
-use Rattle.bounds.specs.declared.limits.Verdict.{Verdict}
-use Rattle.bounds.specs.declared.limits.Verdict.TheVariants as verdict
 use Rattle.bounds.specs.declared.refusal.Refusal.{Refusal}
-use Rattle.bounds.specs.declared.refusal.Reply.TheVariants as reply
 use Rattle.schedule.specs.Making.{fresh_array_record, fresh_zero_record, made, made_array, made_zero}
 use Rattle.schedule.specs.declared.record.Record.{Record}
 use Rattle.text.specs.Lines.{lines_of}
+use Rattle.std.specs.Prelude.{Option, Some, None, Result, Ok, Err, ⊤}
+use Rattle.std.specs.Result.{result_and}
+use Rattle.schedule.specs.Record.{accepted_as}
 use Rattle.text.specs.Frames.{parse_of}
 use Rattle.text.specs.Output.{Put, pasted}
 use Rattle.text.specs.declared.frame.Frame.{Frame}
 use Rattle.text.specs.declared.frame.Frame.TheVariants as frame
 use Rattle.text.proofs.PasteLaws.{put_put}
-use Rattle.served.specs.Served.{nothing_made, refused_by, making_of, headed_by, served_for}
-use Rattle.served.specs.Replies.{made_as, replies_to, Room}
+use Rattle.served.specs.Served.{nothing_made, made_as, refused_by, kept_by, making_of, headed_by, served_for}
+use Rattle.served.specs.Replies.{replies_to, Room}
 use Rattle.served.specs.declared.held.Held.{Held}
 use Rattle.served.specs.declared.held.Served.{Served}
 use Rattle.served.proofs.RunLaws.{Running}
-use Rattle.playback.specs.Heading.{headed_to, making_to, heading_of}
+use Rattle.playback.specs.Heading.{making_to, heading_of}
 use Rattle.playback.specs.declared.run.Heading.{Heading}
-use Rattle.playback.specs.declared.run.Heading.TheVariants.{Refused, Array, Zero}
-
--- Laws of `making`, by the test of the capacity.
-module _ (c n : ℕ) {h : Heading} {v : Verdict} where
-  pub making_zero : c ≡ 0 → v ≡ making flavour.Zero 0 n → h ≡ headed_to v (Zero n) → h ≡ making_to c n
-  unfolding making_to choice
-  making_zero e k l = rw (eq-eqb c 0 e) (l ∙ ap (λ (x : Verdict). headed_to x (Zero n)) k)
-
-  pub making_array : (c ≡ 0 → ⊥) → v ≡ making flavour.Array c n → h ≡ headed_to v (Array c n) → h ≡ making_to c n
-  unfolding making_to choice
-  making_array e k l = rw (ne_eqb c 0 e) (l ∙ ap (λ (x : Verdict). headed_to x (Array c n)) k)
+use Rattle.playback.specs.declared.run.Heading.TheVariants.{Array, Zero}
 
 -- A refused line leaves nothing made; a channel is held from then on.
-abbrev done_with : Record → Served
-done_with r = record { held = made_as r; reply = reply.Done }
+abbrev led_to : Result Heading Refusal → Served
+led_to (Err n) = refused_by nothing_made n
+led_to (Ok (Array c n)) = kept_by (accepted_as (fresh_array_record c n))
+led_to (Ok (Zero n)) = kept_by (accepted_as (fresh_zero_record n))
 
-abbrev led_to : Heading → Served
-led_to (Refused n) = refused_by nothing_made n
-led_to (Array c n) = done_with (fresh_array_record c n)
-led_to (Zero n) = done_with (fresh_zero_record n)
-
-served_led : (f : Frame) → served_for nothing_made f ≡ led_to (heading_of f)
-unfolding served_for making_of made_array made_zero making_to choice
-served_led frame.Malformed = refl
-served_led (frame.Header c n) = go (eqb c 0)
+served_led : (f : Option Frame) → served_for nothing_made f ≡ led_to (heading_of f)
+unfolding served_for making_of made_array made_zero making_to
+served_led None = refl
+served_led (Some (frame.Header c n)) = go (eqb c 0)
   where
-    led : (v : Verdict) (r : Record) (h : Heading) → led_to h ≡ done_with r → headed_by (made v r) ≡ led_to (headed_to v h)
-    led verdict.Allowed r h e = sym e
-    led (verdict.Refused m) r h e = refl
+    led : (v : Result ⊤ Refusal) (r : Record) (h : Heading) → led_to (Ok h) ≡ kept_by (accepted_as r) →
+        headed_by (made v r) ≡ led_to (result_and v (Ok h))
+    led (Ok x) r h e = sym e
+    led (Err m) r h e = refl
 
-    go : (b : Bool) → headed_by (when b then made_zero n else made_array c n) ≡
-        led_to (when b then headed_to (making flavour.Zero 0 n) (Zero n) else headed_to (making flavour.Array c n) (Array c n))
+    go : (b : Bool) → headed_by (cond b (made_zero n) (made_array c n)) ≡
+        led_to (cond b (result_and (making flavour.Zero 0 n) (Ok (Zero n))) (result_and (making flavour.Array c n) (Ok (Array c n))))
     go true = led (making flavour.Zero 0 n) (fresh_zero_record n) (Zero n) refl
     go false = led (making flavour.Array c n) (fresh_array_record c n) (Array c n) refl
-served_led (frame.Begin t c m d) = refl
-served_led (frame.Step t) = refl
-served_led (frame.Advance n) = refl
-served_led (frame.Take t) = refl
-served_led (frame.Fail t) = refl
+served_led (Some (frame.Begin t c m d)) = refl
+served_led (Some (frame.Step t)) = refl
+served_led (Some (frame.Advance n)) = refl
+served_led (Some (frame.Take t)) = refl
+served_led (Some (frame.Fail t)) = refl
 
 -- A channel's making is allowed.
 abbrev Allows : Heading → Type 0
-Allows (Refused n) = Unit {0}
-Allows (Array c n) = making flavour.Array c n ≡ verdict.Allowed
-Allows (Zero n) = making flavour.Zero 0 n ≡ verdict.Allowed
+Allows (Array c n) = making flavour.Array c n ≡ Ok tt
+Allows (Zero n) = making flavour.Zero 0 n ≡ Ok tt
 
-allows_led : (f : Frame) → Allows (heading_of f)
-unfolding making_to choice
-allows_led frame.Malformed = tt
-allows_led (frame.Header c n) = go (eqb c 0)
+allows_led : (f : Option Frame) (h : Heading) → heading_of f ≡ Ok h → Allows h
+unfolding making_to
+allows_led (Some (frame.Header c n)) h e = go (eqb c 0) e
   where
-    led : (v : Verdict) (h : Heading) → (v ≡ verdict.Allowed → Allows h) → Allows (headed_to v h)
-    led verdict.Allowed h k = k refl
-    led (verdict.Refused m) h k = tt
+    led : (v : Result ⊤ Refusal) (k : Heading) → (v ≡ Ok tt → Allows k) → result_and v (Ok k) ≡ Ok h → Allows h
+    led (Ok tt) k a e = let same : k ≡ h = cc in subst Allows same (a refl)
+    led (Err m) k a e = cc
 
     go : (b : Bool) →
-        Allows (when b then headed_to (making flavour.Zero 0 n) (Zero n) else headed_to (making flavour.Array c n) (Array c n))
+        cond b (result_and (making flavour.Zero 0 n) (Ok (Zero n))) (result_and (making flavour.Array c n) (Ok (Array c n))) ≡ Ok h → Allows h
     go true = led (making flavour.Zero 0 n) (Zero n) (λ e. e)
     go false = led (making flavour.Array c n) (Array c n) (λ e. e)
-allows_led (frame.Begin t c m d) = tt
-allows_led (frame.Step t) = tt
-allows_led (frame.Advance n) = tt
-allows_led (frame.Take t) = tt
-allows_led (frame.Fail t) = tt
+allows_led f h e = cc
 
 -- The heading of a line, and each of the three.
-module _ (l : List ℕ) {f : Frame} {h : Heading} (ef : f ≡ parse_of l) (eh : h ≡ heading_of f) where
-  leads : (x : Heading) → h ≡ x → heading_of (parse_of l) ≡ x
+module _ (l : List ℕ) {f : Option Frame} {h : Result Heading Refusal} (ef : f ≡ parse_of l) (eh : h ≡ heading_of f) where
+  leads : (x : Result Heading Refusal) → h ≡ x → heading_of (parse_of l) ≡ x
   leads x e = rw (← ef) (sym eh ∙ e)
 
-  pub served_refused : (n : Refusal) → h ≡ Refused n →
-      served_for nothing_made (parse_of l) ≡ record { held = nothing_made; reply = reply.Refused n }
-  served_refused n e = served_led (parse_of l) ∙ ap led_to (leads (Refused n) e)
+  pub served_refused : (n : Refusal) → h ≡ Err n →
+      served_for nothing_made (parse_of l) ≡ record { held = nothing_made; reply = Err n }
+  served_refused n e = served_led (parse_of l) ∙ ap led_to (leads (Err n) e)
 
-  pub served_array : (c n : ℕ) → h ≡ Array c n →
-      served_for nothing_made (parse_of l) ≡ record { held = made_as (fresh_array_record c n); reply = reply.Done }
-  served_array c n e = served_led (parse_of l) ∙ ap led_to (leads (Array c n) e)
+  pub served_array : (c n : ℕ) → h ≡ Ok (Array c n) →
+      served_for nothing_made (parse_of l) ≡ record { held = made_as (fresh_array_record c n); reply = Ok None }
+  served_array c n e = served_led (parse_of l) ∙ ap led_to (leads (Ok (Array c n)) e)
 
-  pub served_zero : (n : ℕ) → h ≡ Zero n →
-      served_for nothing_made (parse_of l) ≡ record { held = made_as (fresh_zero_record n); reply = reply.Done }
-  served_zero n e = served_led (parse_of l) ∙ ap led_to (leads (Zero n) e)
+  pub served_zero : (n : ℕ) → h ≡ Ok (Zero n) →
+      served_for nothing_made (parse_of l) ≡ record { held = made_as (fresh_zero_record n); reply = Ok None }
+  served_zero n e = served_led (parse_of l) ∙ ap led_to (leads (Ok (Zero n)) e)
 
-  pub allows_array : (c n : ℕ) → h ≡ Array c n → making flavour.Array c n ≡ verdict.Allowed
-  allows_array c n e = subst Allows (leads (Array c n) e) (allows_led (parse_of l))
+  pub allows_array : (c n : ℕ) → h ≡ Ok (Array c n) → making flavour.Array c n ≡ Ok tt
+  allows_array c n e = allows_led (parse_of l) (Array c n) (leads (Ok (Array c n)) e)
 
-  pub allows_zero : (n : ℕ) → h ≡ Zero n → making flavour.Zero 0 n ≡ verdict.Allowed
-  allows_zero n e = subst Allows (leads (Zero n) e) (allows_led (parse_of l))
+  pub allows_zero : (n : ℕ) → h ≡ Ok (Zero n) → making flavour.Zero 0 n ≡ Ok tt
+  allows_zero n e = allows_led (parse_of l) (Zero n) (leads (Ok (Zero n)) e)
 
 -- Before the first line.
 pub room_first : (t out : List ℕ) → length t * 3 + 3 ≤ length out → Room t 0 out 0

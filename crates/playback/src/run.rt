@@ -4,13 +4,12 @@ ghost use Rattle.text.specs.Lines.{lines_of};
 ghost use Rattle.text.specs.Output.{Put};
 ghost use Rattle.served.specs.Served.{nothing_made};
 ghost use Rattle.served.specs.Replies.{replies_to};
-ghost use Rattle.playback.specs.Heading.{headed_to, making_to, heading_of};
+ghost use Rattle.playback.specs.Heading.{making_to, heading_of};
 ghost use Rattle.playback.specs.Output.{Replayed};
 
 use bounds::flavour::Flavour;
 use bounds::limits;
-use bounds::limits::Verdict;
-use bounds::refusal::{Refusal, Reply};
+use bounds::refusal::Refusal;
 use served::reply;
 use text::frame::Frame;
 use text::{frame, lines};
@@ -18,59 +17,39 @@ use text::{frame, lines};
 /// The longest schedule text.
 pub const TEXT_LIMIT: usize = 60_000;
 
-/// What the buffer got: the whole output, so many bytes long, or nothing, since it is too short.
-#[derive(Clone, Copy)]
-pub enum Written {
-    Whole(usize),
-    Short,
-}
-
-/// What a line before a channel was made leads to: a refusal, or a channel.
-#[derive(Clone, Copy)]
+// Stays an enum: two channels of equal standing, of which one has a capacity.
+/// The channel that a header makes.
+#[derive(Clone, Copy, Debug, PartialEq, Eq)]
 pub enum Heading {
-    Refused(Refusal),
     Array { capacity: u64, count: u32 },
     Zero { count: u32 },
 }
 
-/// A making that is allowed leads to its channel.
-fn headed(verdict: Verdict, channel: Heading) -> Heading
-    ensures { result ≡ headed_to verdict channel }
-{
-    match verdict {
-        Verdict::Allowed => channel,
-        Verdict::Refused(refusal) => Heading::Refused(refusal),
-    }
-}
-
 /// What a header leads to. Capacity 0 makes a rendezvous.
-fn making(capacity: u32, count: u32) -> Heading
+#[tactic(auto, unfolding(crate::specs::Heading::making_to))]
+fn making(capacity: u32, count: u32) -> Result<Heading, Refusal>
     ensures { result ≡ making_to capacity count }
 {
     if capacity == 0 {
-        let verdict = limits::making(Flavour::Zero, 0, count);
-        return headed(verdict, Heading::Zero { count });
+        limits::making(Flavour::Zero, 0, count)?;
+        return Ok(Heading::Zero { count });
     }
-    let capacity = capacity as u64;
-    let verdict = limits::making(Flavour::Array, capacity, count);
-    headed(verdict, Heading::Array { capacity, count })
+    let capacity = u64::from(capacity);
+    limits::making(Flavour::Array, capacity, count)?;
+    Ok(Heading::Array { capacity, count })
 }
 
-/// What a frame leads to before a channel was made.
-fn heading_of(frame: Frame) -> Heading
+/// What a line's frame leads to before a channel was made.
+fn heading_of(frame: Option<Frame>) -> Result<Heading, Refusal>
     ensures { result ≡ heading_of frame }
 {
-    match frame {
-        Frame::Malformed => Heading::Refused(Refusal::Malformed),
+    match frame.ok_or(Refusal::Malformed)? {
         Frame::Header { capacity, threads } => making(capacity, threads),
-        Frame::Begin { .. } => Heading::Refused(Refusal::NoChannel),
-        Frame::Step { .. } => Heading::Refused(Refusal::NoChannel),
-        Frame::Advance { .. } => Heading::Refused(Refusal::NoChannel),
-        Frame::Take { .. } => Heading::Refused(Refusal::NoChannel),
-        Frame::Fail { .. } => Heading::Refused(Refusal::NoChannel),
+        _ => Err(Refusal::NoChannel),
     }
 }
 
+// Stays a lent buffer with room for three bytes a byte: no heap, a rule of the project.
 /// The lines of a text, answered one after the other: up to the header that makes a channel here, and from there on by the channel's replay.
 fn run(text: &[u8], out: &mut [u8]) -> usize
     requires { length text.now * 3 + 3 ≤ length out.old }
@@ -78,43 +57,41 @@ fn run(text: &[u8], out: &mut [u8]) -> usize
 {
     let mut at = 0;
     let mut end = 0;
+    // Stays a place that goes on: from the header on it is handed to the channel's replay.
     while at < text.len() {
         let line = lines::line(text, at);
         at = at + line.len() + 1;
         let frame = frame::parse(line);
-        let heading = heading_of(frame);
-        match heading {
-            Heading::Refused(refusal) => {
-                end = reply::put(out, end, Reply::Refused(refusal));
-            }
-            Heading::Array { capacity, count } => {
-                let start = reply::put(out, end, Reply::Done);
+        match heading_of(frame) {
+            Ok(Heading::Array { capacity, count }) => {
+                let start = reply::put(out, end, Ok(None));
                 return array_replay::replay(text, at, out, start, capacity, count);
             }
-            Heading::Zero { count } => {
-                let start = reply::put(out, end, Reply::Done);
+            Ok(Heading::Zero { count }) => {
+                let start = reply::put(out, end, Ok(None));
                 return zero_replay::replay(text, at, out, start, count);
+            }
+            Err(refusal) => {
+                end = reply::put(out, end, Err(refusal));
             }
         }
     }
     end
 }
 
-/// The replay of a text: the whole output, where the buffer has three bytes for each of the text's and three more.
-#[tactic(auto, unfolding(crate::specs::Output::output_of, crate::specs::Output::room_for, text::specs::Output::pasted, waker::specs::Choice::choice))]
-pub fn replay(text: &[u8], out: &mut [u8]) -> Written
+/// The replay of a text: how long its whole output is, where the buffer has three bytes for each of the text's and three more, and None where it is shorter.
+#[tactic(auto, unfolding(crate::specs::Output::output_of, crate::specs::Output::room_for, text::specs::Output::pasted))]
+pub fn replay(text: &[u8], out: &mut [u8]) -> Option<usize>
     ensures { Replayed text.now out.old result out.new }
 {
     if TEXT_LIMIT < text.len() {
         if out.len() < 3 {
-            return Written::Short;
+            return None;
         }
-        let end = reply::put(out, 0, Reply::Refused(Refusal::TooLong));
-        return Written::Whole(end);
+        return Some(reply::put(out, 0, Err(Refusal::TooLong)));
     }
     if out.len() < text.len() * 3 + 3 {
-        return Written::Short;
+        return None;
     }
-    let end = run(text, out);
-    Written::Whole(end)
+    Some(run(text, out))
 }

@@ -1,190 +1,159 @@
 //! A history of public calls under test: the record, and whether it has shown what was expected so far.
-use bounds::refusal::Reply;
-use channel::answer::Tick;
+use bounds::refusal::{Refusal, Reply};
+use channel::answer::{Answer, Tick};
+use places::begin::NO_DEADLINE;
 use saved::fields;
-use saved::fields::FIELDS;
+use saved::place::Numbers;
 use schedule::record::{Record, Replied};
-use waker::context::Thread;
+use waker::context::{THREADS, Thread};
 
-/// No deadline.
-pub const NONE: u32 = 0xffff_ffff;
+/// A call that a row begins: a send with its message, a receive with its deadline in ticks, if it has one.
+#[derive(Clone, Copy, Debug, PartialEq, Eq)]
+pub enum Call {
+    TrySend(u32),
+    TryReceive,
+    Send(u32),
+    Receive(Option<u32>),
+    Len,
+}
 
+/// The fields that a row looks at, by their numbers in a record's line.
+#[derive(Clone, Copy, Debug, PartialEq, Eq)]
+pub enum Field {
+    Flavour = 0,
+    Mark = 2,
+    Lap = 3,
+    Count = 4,
+    Steps = 6,
+    Head = 7,
+    Tail = 8,
+    FirstWord = 13,
+    FirstStamp = 76,
+}
+
+// Stays a flag beside the record: where a row differs, its run goes on, and the record is still looked at.
 /// The record, and whether all agreed so far.
-#[derive(Clone, Copy)]
+#[derive(Clone, Copy, Debug, PartialEq, Eq)]
 pub struct Run {
     pub channel: Record,
     pub agrees: bool,
 }
 
-/// Is it an accepted call that hands no answer out?
-fn is_done(reply: Reply) -> bool {
-    match reply {
-        Reply::Done => true,
-        Reply::Took(_) => false,
-        Reply::Refused(_) => false,
-    }
-}
-
-/// Is it this refusal?
-fn is_refusal(reply: Reply, number: u8) -> bool {
-    match reply {
-        Reply::Done => false,
-        Reply::Took(_) => false,
-        Reply::Refused(refusal) => refusal.number() == number,
-    }
-}
-
-/// Is it an accepted take of this answer?
-fn is_answer(reply: Reply, kind: u8, value: u32) -> bool {
-    match reply {
-        Reply::Done => false,
-        Reply::Took(answer) => answer.kind() == kind && answer.value() == value,
-        Reply::Refused(_) => false,
-    }
-}
-
 impl Run {
+    /// A making whose reply must be this one.
+    fn made_by(replied: Replied, reply: Reply) -> Run {
+        Run {
+            channel: replied.next,
+            agrees: replied.reply == reply,
+        }
+    }
+
     /// A making that must be accepted.
     pub fn made(replied: Replied) -> Run {
-        let reply = replied.reply;
-        let channel = replied.next;
-        Run {
-            channel,
-            agrees: is_done(reply),
-        }
+        Run::made_by(replied, Ok(None))
     }
 
     /// A making that must be refused.
-    pub fn not_made(replied: Replied, refusal: u8) -> Run {
-        let reply = replied.reply;
-        let channel = replied.next;
+    pub fn not_made(replied: Replied, refusal: Refusal) -> Run {
+        Run::made_by(replied, Err(refusal))
+    }
+
+    /// The same record, of which this must hold.
+    fn and(self, holds: bool) -> Run {
         Run {
-            channel,
-            agrees: is_refusal(reply, refusal),
+            agrees: self.agrees && holds,
+            ..self
         }
+    }
+
+    /// A call whose reply must be this one.
+    fn calls(self, replied: Replied, reply: Reply) -> Run {
+        Run::made_by(replied, reply).and(self.agrees)
     }
 
     /// A call that must be accepted.
-    fn went_on(self, replied: Replied) -> Run {
-        let reply = replied.reply;
-        let channel = replied.next;
-        Run {
-            channel,
-            agrees: self.agrees && is_done(reply),
-        }
+    pub fn accepts<F: FnOnce(Record) -> Replied>(self, call: F) -> Run
+        requires { F.IsAlwaysCallable call }
+    {
+        self.calls(call(self.channel), Ok(None))
     }
 
     /// A call that must be refused.
-    fn stayed(self, replied: Replied, refusal: u8) -> Run {
-        let reply = replied.reply;
-        let channel = replied.next;
-        Run {
-            channel,
-            agrees: self.agrees && is_refusal(reply, refusal),
-        }
+    pub fn refuses<F: FnOnce(Record) -> Replied>(self, call: F, refusal: Refusal) -> Run
+        requires { F.IsAlwaysCallable call }
+    {
+        self.calls(call(self.channel), Err(refusal))
     }
 
-    pub fn begins(self, thread: u32, code: u32, message: u32, deadline: u32) -> Run {
-        let channel = self.channel;
-        self.went_on(channel.begin(Thread(thread), code, message, Tick(deadline)))
+    // Stays this constant: `Record::begin` takes a tick, and so spells that there is no deadline.
+    /// A call begins, and must be accepted.
+    pub fn begins(self, thread: u32, call: Call) -> Run {
+        let (code, message, deadline) = match call {
+            Call::TrySend(message) => (1, message, None),
+            Call::TryReceive => (2, 0, None),
+            Call::Send(message) => (3, message, None),
+            Call::Receive(deadline) => (4, 0, deadline),
+            Call::Len => (5, 0, None),
+        };
+        let deadline = deadline.map_or(NO_DEADLINE, Tick);
+        self.accepts(|record| record.begin(Thread(thread), code, message, deadline))
     }
 
+    /// A step, which must be accepted.
     pub fn steps(self, thread: u32) -> Run {
-        let channel = self.channel;
-        self.went_on(channel.step(Thread(thread)))
+        self.accepts(|record| record.step(Thread(thread)))
     }
 
     /// Some steps of a thread, each of which must be accepted.
     pub fn walks(self, thread: u32, steps: u32) -> Run {
-        let mut run = self;
-        let mut made = 0;
-        while made < steps {
-            run = run.steps(thread);
-            made += 1;
-        }
-        run
+        (0..steps).fold(self, |run, _| run.steps(thread))
     }
 
+    // Stays a number: the bench book names steps by letters, as the codes do, and a pattern for each place is no plainer.
     /// A step, after which the thread must stand here.
     pub fn goes(self, thread: u32, code: u64) -> Run {
         self.steps(thread).stands(thread, code)
     }
 
-    /// A step whose exchange fails, which must be accepted.
-    pub fn fails(self, thread: u32) -> Run {
-        let channel = self.channel;
-        self.went_on(channel.fail(Thread(thread)))
-    }
-
-    /// A step whose exchange fails, which must be refused.
-    pub fn does_not_fail(self, thread: u32, refusal: u8) -> Run {
-        let channel = self.channel;
-        self.stayed(channel.fail(Thread(thread)), refusal)
-    }
-
-    pub fn advances(self, ticks: u32) -> Run {
-        let channel = self.channel;
-        self.went_on(channel.advance(Tick(ticks)))
-    }
-
     /// The thread's answer must be this one.
-    pub fn takes(self, thread: u32, kind: u8, value: u32) -> Run {
-        let channel = self.channel;
-        let replied = channel.take(Thread(thread));
-        let reply = replied.reply;
-        let next = replied.next;
-        Run {
-            channel: next,
-            agrees: self.agrees && is_answer(reply, kind, value),
-        }
-    }
-
-    /// The clock must not go on.
-    pub fn stays(self, ticks: u32, refusal: u8) -> Run {
-        let channel = self.channel;
-        self.stayed(channel.advance(Tick(ticks)), refusal)
+    pub fn takes(self, thread: u32, answer: Answer) -> Run {
+        self.calls(self.channel.take(Thread(thread)), Ok(Some(answer)))
     }
 
     /// A field of the record must have this value.
-    pub fn shows(self, i: usize, value: u64) -> Run {
-        let channel = self.channel;
-        if FIELDS <= i {
-            return Run {
-                channel,
-                agrees: false,
-            };
-        }
-        let agrees = self.agrees && fields::field(channel, i) == value;
-        Run { channel, agrees }
+    pub fn shows(self, field: Field, value: u64) -> Run {
+        self.and(fields::field(&self.channel, field as usize) == value)
     }
 
-    /// Where a thread stands must have this code.
+    // Stays a number: the bench book names steps by letters, as the codes do, and a pattern for each place is no plainer.
+    /// Where a thread stands must have this code, which docs/TRACE.md lists.
     pub fn stands(self, thread: u32, code: u64) -> Run {
-        let channel = self.channel;
-        if 8 <= thread {
-            return Run {
-                channel,
-                agrees: false,
-            };
-        }
-        self.shows(10 + 6 * (thread as usize), code)
+        let at = thread as usize;
+        self.and(at < THREADS && Numbers::from(self.channel.place(at)).code == code)
     }
 
+    /// A call in one go of so many steps, its answer taken.
+    fn goes_through(self, thread: u32, call: Call, steps: u32, answer: Answer) -> Run {
+        self.begins(thread, call)
+            .walks(thread, steps)
+            .takes(thread, answer)
+    }
+
+    // Stays a word of its own, as the bench book's rows read: what is alike in the three is `goes_through`.
     /// A `try_send` in one go, its answer taken.
     pub fn sends(self, thread: u32, message: u32) -> Run {
-        let begun = self.begins(thread, 1, message, NONE);
-        begun.walks(thread, 5).takes(thread, 1, 0)
+        self.goes_through(thread, Call::TrySend(message), 5, Answer::Sent)
     }
 
+    // Stays a word of its own, as the bench book's rows read: what is alike in the three is `goes_through`.
     /// A `try_recv` in one go, its answer taken.
     pub fn receives(self, thread: u32, message: u32) -> Run {
-        let begun = self.begins(thread, 2, 0, NONE);
-        begun.walks(thread, 5).takes(thread, 2, message)
+        self.goes_through(thread, Call::TryReceive, 5, Answer::Received(message))
     }
 
+    // Stays a word of its own, as the bench book's rows read: what is alike in the three is `goes_through`.
     /// A `len` in one go, its answer taken.
     pub fn counts(self, thread: u32, n: u32) -> Run {
-        let begun = self.begins(thread, 5, 0, NONE);
-        begun.walks(thread, 3).takes(thread, 7, n)
+        self.goes_through(thread, Call::Len, 3, Answer::Number(n))
     }
 }

@@ -1,6 +1,5 @@
 -- The fields of a record, numbered: what it has once, its threads, its queues, its slots.
-use Rattle.std.specs.Prelude.{ℕ, ◌-◌, ◌/◌, ◌%◌, Bool, true, false, eqb, ltb, get_or}
-use Rattle.waker.specs.Choice.{when◌then◌else◌}
+use Rattle.std.specs.Prelude.{ℕ, ◌-◌, ◌/◌, ◌%◌, Bool, true, false, if◌then◌else◌, eqb, nat_lt, get_or}
 use Rattle.waker.specs.Context.{thread}
 use Rattle.waker.specs.Wakers.{word_of}
 use Rattle.waker.specs.declared.context.Selected.{Selected}
@@ -35,36 +34,36 @@ word_number Disconnected = 3
 -- Fields 0 to 9.
 unfoldable pub head_field : Record → ℕ → ℕ
 head_field r i =
-    when eqb i 0 then flavour_number r.flavour
-    else when eqb i 1 then r.shape.capacity
-    else when eqb i 2 then r.shape.mark
-    else when eqb i 3 then r.shape.lap
-    else when eqb i 4 then r.count
-    else when eqb i 5 then r.clock.0
-    else when eqb i 6 then r.steps
-    else when eqb i 7 then r.array.head.0
-    else when eqb i 8 then r.array.tail.0
+    if eqb i 0 then flavour_number r.flavour
+    else if eqb i 1 then r.shape.capacity
+    else if eqb i 2 then r.shape.mark
+    else if eqb i 3 then r.shape.lap
+    else if eqb i 4 then r.count
+    else if eqb i 5 then r.clock.0
+    else if eqb i 6 then r.steps
+    else if eqb i 7 then r.array.head.0
+    else if eqb i 8 then r.array.tail.0
     else bit r.zero.disconnected
 
 -- A thread's six: its place, its word, its packet.
 unfoldable pub thread_field : Record → ℕ → ℕ → ℕ
 thread_field r t i =
-    when eqb i 0 then (place_numbers (place_of r t)).code
-    else when eqb i 1 then (place_numbers (place_of r t)).first
-    else when eqb i 2 then (place_numbers (place_of r t)).second
-    else when eqb i 3 then word_number (word_of r.zero.wakers (thread t))
-    else when eqb i 4 then (packet_at r.zero (thread t)).message
+    if eqb i 0 then (place_numbers (place_of r t)).code
+    else if eqb i 1 then (place_numbers (place_of r t)).first
+    else if eqb i 2 then (place_numbers (place_of r t)).second
+    else if eqb i 3 then word_number (word_of r.zero.wakers (thread t))
+    else if eqb i 4 then (packet_at r.zero (thread t)).message
     else bit (packet_at r.zero (thread t)).ready
 
 -- A queue's nine: its length, then its entries.
 unfoldable pub queue_field : Waker → ℕ → ℕ
-queue_field q i = when eqb i 0 then q.len else (get_or q.selectors (i - 1) (thread 0)).0
+queue_field q i = if eqb i 0 then q.len else (get_or q.selectors (i - 1) (thread 0)).0
 
 unfoldable pub field_of : Record → ℕ → ℕ
 field_of r i =
-    when ltb i 10 then head_field r i
-    else when ltb i 58 then thread_field r ((i - 10) / 6) ((i - 10) % 6)
-    else when ltb i 67 then queue_field r.zero.wakers.senders (i - 58)
-    else when ltb i 76 then queue_field r.zero.wakers.receivers (i - 67)
-    else when ltb i 140 then (get_or r.array.stamps (i - 76) (at 0)).0
+    if nat_lt i 10 then head_field r i
+    else if nat_lt i 58 then thread_field r ((i - 10) / 6) ((i - 10) % 6)
+    else if nat_lt i 67 then queue_field r.zero.wakers.senders (i - 58)
+    else if nat_lt i 76 then queue_field r.zero.wakers.receivers (i - 67)
+    else if nat_lt i 140 then (get_or r.array.stamps (i - 76) (at 0)).0
     else get_or r.array.messages (i - 140) 0

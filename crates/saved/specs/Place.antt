@@ -1,5 +1,5 @@
--- Where a thread stands, as three numbers. The first digit of a running call's code is 01's call code; a to f are 01's steps on an
--- array, 0 to 5 those on a rendezvous.
+-- Where a thread stands, as three numbers. The first digit of a running call's code is the call's code; a to f are the array's
+-- steps, 0 to 5 those on a rendezvous.
 use Rattle.std.specs.Prelude.{ℕ, ◌+◌}
 use Rattle.waker.specs.declared.wakers.Side.{Side}
 use Rattle.waker.specs.declared.wakers.Side.TheVariants.{Sender, Receiver}

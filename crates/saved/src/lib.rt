@@ -1,5 +1,5 @@
 //! The record as numbers in a fixed order, and its line of text.
-#![tactic(auto, unfolding(waker::specs::Choice::choice))]
+#![tactic(auto)]
 
 pub mod fields;
 pub mod line;

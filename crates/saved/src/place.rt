@@ -1,21 +1,24 @@
 //! Where a thread stands, as three numbers: a code, and what its call has saved.
 ghost use Rattle.std.specs.Prelude.{◌≡◌};
-ghost use Rattle.saved.specs.Place.{numbers, send_numbers, receive_numbers, len_numbers, is_empty_numbers, is_full_numbers, array_numbers, first_numbers, ask_numbers, on_side, zero_numbers, place_numbers};
+ghost use Rattle.saved.specs.Place.{numbers, first_numbers, on_side};
 
 use array::call::{ArrayCall, IsEmptyPlace, IsFullPlace, LenPlace, ReceivePlace, SendPlace};
 use places::place::Place;
 use waker::wakers::Side;
 use zero::call::{Limit, Offer, Question, ZeroCall};
 
+// Stays numbers: the record's line shows them, and a place of its own for each would say what `Place` says.
 /// A place's code, and up to two saved numbers.
-#[derive(Clone, Copy)]
+#[derive(Clone, Copy, Debug, PartialEq, Eq)]
 pub struct Numbers {
+    // Stays a number: the record's line shows it, in hexadecimal, as the bench book names the steps.
     pub code: u64,
     pub first: u64,
     pub second: u64,
 }
 
 impl Numbers {
+    // Stays a number: the record's line shows it, in hexadecimal, as the bench book names the steps.
     /// A code, with what is saved.
     fn new(code: u64, first: u64, second: u64) -> Numbers
         ensures { result ≡ numbers code first second }
@@ -26,108 +29,141 @@ impl Numbers {
             second,
         }
     }
-}
 
-/// `try_send`, A to F.
-fn send_numbers(place: SendPlace) -> Numbers
-    ensures { result ≡ send_numbers place }
-{
-    match place {
-        SendPlace::LoadTail { message } => Numbers::new(0x1a, message as u64, 0),
-        SendPlace::LoadStamp { message, tail } => Numbers::new(0x1b, message as u64, tail.0),
-        SendPlace::ClaimTail { message, tail } => Numbers::new(0x1c, message as u64, tail.0),
-        SendPlace::LoadHead { message, tail } => Numbers::new(0x1d, message as u64, tail.0),
-        SendPlace::StoreMessage { message, tail } => Numbers::new(0x1e, message as u64, tail.0),
-        SendPlace::StoreStamp { tail } => Numbers::new(0x1f, 0, tail.0),
+    // Stays a number: the record's line shows it, in hexadecimal, as the bench book names the steps.
+    /// The same where what is saved has 32 bits: a message, a partner's number or a deadline.
+    fn short(code: u64, first: u32, second: u32) -> Numbers
+        ensures { result ≡ numbers code first second }
+    {
+        Numbers::new(code, u64::from(first), u64::from(second))
     }
 }
 
-/// `try_recv`, A to F.
-fn receive_numbers(place: ReceivePlace) -> Numbers
-    ensures { result ≡ receive_numbers place }
-{
-    match place {
-        ReceivePlace::LoadHead => Numbers::new(0x2a, 0, 0),
-        ReceivePlace::LoadStamp { head } => Numbers::new(0x2b, 0, head.0),
-        ReceivePlace::ClaimHead { head } => Numbers::new(0x2c, 0, head.0),
-        ReceivePlace::LoadTail { head } => Numbers::new(0x2d, 0, head.0),
-        ReceivePlace::TakeMessage { head } => Numbers::new(0x2e, 0, head.0),
-        ReceivePlace::StoreStamp { head, message } => Numbers::new(0x2f, message as u64, head.0),
+impl From<SendPlace> for Numbers {
+    ghost use Rattle.std.specs.Prelude.{◌≡◌};
+    ghost use Rattle.saved.specs.Place.{send_numbers};
+
+    ghost from_gives = { λ place numbers. numbers ≡ send_numbers place };
+
+    /// `try_send`, A to F.
+    fn from(place: SendPlace) -> Numbers {
+        // Stays numbers: the record's line shows these codes.
+        match place {
+            SendPlace::LoadTail { message } => Numbers::new(0x1a, u64::from(message), 0),
+            SendPlace::LoadStamp { message, tail } => Numbers::new(
+                0x1b,
+                u64::from(message),
+                tail.0,
+            ),
+            SendPlace::ClaimTail { message, tail } => Numbers::new(
+                0x1c,
+                u64::from(message),
+                tail.0,
+            ),
+            SendPlace::LoadHead { message, tail } => Numbers::new(0x1d, u64::from(message), tail.0),
+            SendPlace::StoreMessage { message, tail } => Numbers::new(
+                0x1e,
+                u64::from(message),
+                tail.0,
+            ),
+            SendPlace::StoreStamp { tail } => Numbers::new(0x1f, 0, tail.0),
+        }
     }
 }
 
-/// `len`, its three loads.
-fn len_numbers(place: LenPlace) -> Numbers
-    ensures { result ≡ len_numbers place }
-{
-    match place {
-        LenPlace::LoadTail => Numbers::new(0x5a, 0, 0),
-        LenPlace::LoadHead { tail } => Numbers::new(0x5b, tail.0, 0),
-        LenPlace::LoadTailAgain { tail, head } => Numbers::new(0x5c, tail.0, head.0),
+impl From<ReceivePlace> for Numbers {
+    ghost use Rattle.std.specs.Prelude.{◌≡◌};
+    ghost use Rattle.saved.specs.Place.{receive_numbers};
+
+    ghost from_gives = { λ place numbers. numbers ≡ receive_numbers place };
+
+    /// `try_recv`, A to F.
+    fn from(place: ReceivePlace) -> Numbers {
+        match place {
+            ReceivePlace::LoadHead => Numbers::new(0x2a, 0, 0),
+            ReceivePlace::LoadStamp { head } => Numbers::new(0x2b, 0, head.0),
+            ReceivePlace::ClaimHead { head } => Numbers::new(0x2c, 0, head.0),
+            ReceivePlace::LoadTail { head } => Numbers::new(0x2d, 0, head.0),
+            ReceivePlace::TakeMessage { head } => Numbers::new(0x2e, 0, head.0),
+            ReceivePlace::StoreStamp { head, message } => Numbers::new(
+                0x2f,
+                u64::from(message),
+                head.0,
+            ),
+        }
     }
 }
 
-/// `is_empty`, its two loads.
-fn is_empty_numbers(place: IsEmptyPlace) -> Numbers
-    ensures { result ≡ is_empty_numbers place }
-{
-    match place {
-        IsEmptyPlace::LoadHead => Numbers::new(0x6a, 0, 0),
-        IsEmptyPlace::LoadTail { head } => Numbers::new(0x6b, head.0, 0),
+impl From<LenPlace> for Numbers {
+    ghost use Rattle.std.specs.Prelude.{◌≡◌};
+    ghost use Rattle.saved.specs.Place.{len_numbers};
+
+    ghost from_gives = { λ place numbers. numbers ≡ len_numbers place };
+
+    /// `len`, its three loads.
+    fn from(place: LenPlace) -> Numbers {
+        // Stays numbers: the record's line shows these codes.
+        match place {
+            LenPlace::LoadTail => Numbers::new(0x5a, 0, 0),
+            LenPlace::LoadHead { tail } => Numbers::new(0x5b, tail.0, 0),
+            LenPlace::LoadTailAgain { tail, head } => Numbers::new(0x5c, tail.0, head.0),
+        }
     }
 }
 
-/// `is_full`, its two loads.
-fn is_full_numbers(place: IsFullPlace) -> Numbers
-    ensures { result ≡ is_full_numbers place }
-{
-    match place {
-        IsFullPlace::LoadTail => Numbers::new(0x7a, 0, 0),
-        IsFullPlace::LoadHead { tail } => Numbers::new(0x7b, tail.0, 0),
+impl From<ArrayCall> for Numbers {
+    ghost use Rattle.std.specs.Prelude.{◌≡◌};
+    ghost use Rattle.saved.specs.Place.{array_numbers};
+
+    ghost from_gives = { λ call numbers. numbers ≡ array_numbers call };
+
+    /// A call on an array.
+    fn from(call: ArrayCall) -> Numbers {
+        // Stays a match: a place is an enum of places that carry saved words, a rule of the project.
+        match call {
+            ArrayCall::Send(place) => Numbers::from(place),
+            ArrayCall::Receive(place) => Numbers::from(place),
+            ArrayCall::Len(place) => Numbers::from(place),
+            ArrayCall::IsEmpty(IsEmptyPlace::LoadHead) => Numbers::new(0x6a, 0, 0),
+            ArrayCall::IsEmpty(IsEmptyPlace::LoadTail { head }) => Numbers::new(0x6b, head.0, 0),
+            ArrayCall::IsFull(IsFullPlace::LoadTail) => Numbers::new(0x7a, 0, 0),
+            ArrayCall::IsFull(IsFullPlace::LoadHead { tail }) => Numbers::new(0x7b, tail.0, 0),
+            ArrayCall::IsDisconnected => Numbers::new(0x8a, 0, 0),
+            ArrayCall::Disconnect => Numbers::new(0x9a, 0, 0),
+        }
     }
 }
 
-/// A call on an array.
-fn array_numbers(call: ArrayCall) -> Numbers
-    ensures { result ≡ array_numbers call }
-{
-    match call {
-        ArrayCall::Send(place) => send_numbers(place),
-        ArrayCall::Receive(place) => receive_numbers(place),
-        ArrayCall::Len(place) => len_numbers(place),
-        ArrayCall::IsEmpty(place) => is_empty_numbers(place),
-        ArrayCall::IsFull(place) => is_full_numbers(place),
-        ArrayCall::IsDisconnected => Numbers::new(0x8a, 0, 0),
-        ArrayCall::Disconnect => Numbers::new(0x9a, 0, 0),
-    }
-}
-
+// Stays two parameters: they are what `ZeroCall::First` holds.
 /// The first section, by offer and limit.
 fn first_numbers(offer: Offer, limit: Limit) -> Numbers
     ensures { result ≡ first_numbers offer limit }
 {
-    match offer {
-        Offer::Send(message) => match limit {
-            Limit::Try => Numbers::new(0x10, message as u64, 0),
-            Limit::Until(deadline) => Numbers::new(0x30, message as u64, deadline.0 as u64),
-        },
-        Offer::Receive => match limit {
-            Limit::Try => Numbers::new(0x20, 0, 0),
-            Limit::Until(deadline) => Numbers::new(0x40, 0, deadline.0 as u64),
-        },
+    // Stays numbers: the record's line shows these codes.
+    match (offer, limit) {
+        (Offer::Send(message), Limit::Try) => Numbers::short(0x10, message, 0),
+        (Offer::Receive, Limit::Try) => Numbers::short(0x20, 0, 0),
+        (Offer::Send(message), Limit::Until(deadline)) => Numbers::short(0x30, message, deadline.0),
+        (Offer::Receive, Limit::Until(deadline)) => Numbers::short(0x40, 0, deadline.0),
     }
 }
 
-/// The calls of one step.
-fn ask_numbers(question: Question) -> Numbers
-    ensures { result ≡ ask_numbers question }
-{
-    match question {
-        Question::Len => Numbers::new(0x50, 0, 0),
-        Question::IsEmpty => Numbers::new(0x60, 0, 0),
-        Question::IsFull => Numbers::new(0x70, 0, 0),
-        Question::IsDisconnected => Numbers::new(0x80, 0, 0),
-        Question::Disconnect => Numbers::new(0x90, 0, 0),
+impl From<Question> for Numbers {
+    ghost use Rattle.std.specs.Prelude.{◌≡◌};
+    ghost use Rattle.saved.specs.Place.{ask_numbers};
+
+    ghost from_gives = { λ question numbers. numbers ≡ ask_numbers question };
+
+    /// The calls of one step.
+    fn from(question: Question) -> Numbers {
+        // Stays numbers: the record's line shows these codes.
+        match question {
+            Question::Len => Numbers::new(0x50, 0, 0),
+            Question::IsEmpty => Numbers::new(0x60, 0, 0),
+            Question::IsFull => Numbers::new(0x70, 0, 0),
+            Question::IsDisconnected => Numbers::new(0x80, 0, 0),
+            Question::Disconnect => Numbers::new(0x90, 0, 0),
+        }
     }
 }
 
@@ -141,39 +177,51 @@ fn on_side(side: Side, sender: u64, receiver: u64) -> u64
     }
 }
 
-/// A call on a rendezvous.
-fn zero_numbers(call: ZeroCall) -> Numbers
-    ensures { result ≡ zero_numbers call }
-{
-    match call {
-        ZeroCall::First { offer, limit } => first_numbers(offer, limit),
-        ZeroCall::Put { partner, message } => Numbers::new(0x31, message as u64, partner.0 as u64),
-        ZeroCall::PutReady { partner } => Numbers::new(0x32, 0, partner.0 as u64),
-        ZeroCall::Take { partner } => Numbers::new(0x41, 0, partner.0 as u64),
-        ZeroCall::TakeReady { partner, message } => Numbers::new(
-            0x42,
-            message as u64,
-            partner.0 as u64,
-        ),
-        ZeroCall::Wait { side, deadline } => Numbers::new(
-            on_side(side, 0x33, 0x43),
-            0,
-            deadline.0 as u64,
-        ),
-        ZeroCall::ReadyWait { side } => Numbers::new(on_side(side, 0x34, 0x44), 0, 0),
-        ZeroCall::Leave { side } => Numbers::new(on_side(side, 0x35, 0x45), 0, 0),
-        ZeroCall::Ask(question) => ask_numbers(question),
+impl From<ZeroCall> for Numbers {
+    ghost use Rattle.std.specs.Prelude.{◌≡◌};
+    ghost use Rattle.saved.specs.Place.{zero_numbers};
+
+    ghost from_gives = { λ call numbers. numbers ≡ zero_numbers call };
+
+    /// A call on a rendezvous.
+    fn from(call: ZeroCall) -> Numbers {
+        // Stays a match: a place is an enum of places that carry saved words, a rule of the project.
+        match call {
+            ZeroCall::First { offer, limit } => first_numbers(offer, limit),
+            ZeroCall::Put { partner, message } => Numbers::short(0x31, message, partner.0),
+            ZeroCall::PutReady { partner } => Numbers::short(0x32, 0, partner.0),
+            ZeroCall::Take { partner } => Numbers::short(0x41, 0, partner.0),
+            ZeroCall::TakeReady { partner, message } => Numbers::short(0x42, message, partner.0),
+            ZeroCall::Wait { side, deadline } => Numbers::short(
+                on_side(side, 0x33, 0x43),
+                0,
+                deadline.0,
+            ),
+            ZeroCall::ReadyWait { side } => Numbers::short(on_side(side, 0x34, 0x44), 0, 0),
+            ZeroCall::Leave { side } => Numbers::short(on_side(side, 0x35, 0x45), 0, 0),
+            ZeroCall::Ask(question) => Numbers::from(question),
+        }
     }
 }
 
-/// Idle is 0, and an answer's code is d0 and its kind.
-pub fn place_numbers(place: Place) -> Numbers
-    ensures { result ≡ place_numbers place }
-{
-    match place {
-        Place::Idle => Numbers::new(0, 0, 0),
-        Place::Array(call) => array_numbers(call),
-        Place::Zero(call) => zero_numbers(call),
-        Place::Done(answer) => Numbers::new(0xd0 + answer.kind() as u64, answer.value() as u64, 0),
+impl From<Place> for Numbers {
+    ghost use Rattle.std.specs.Prelude.{◌≡◌};
+    ghost use Rattle.saved.specs.Place.{place_numbers};
+
+    ghost from_gives = { λ place numbers. numbers ≡ place_numbers place };
+
+    /// Idle is 0, and an answer's code is d0 and its kind.
+    fn from(place: Place) -> Numbers {
+        // Stays a match: a place is an enum of places that carry saved words, a rule of the project.
+        match place {
+            Place::Idle => Numbers::new(0, 0, 0),
+            Place::Array(call) => Numbers::from(call),
+            Place::Zero(call) => Numbers::from(call),
+            Place::Done(answer) => Numbers::short(
+                0xd0 + u64::from(answer.kind()),
+                answer.value(),
+                0,
+            ),
+        }
     }
 }

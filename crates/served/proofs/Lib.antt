@@ -1,2 +1,3 @@
 pub mod ServedLaws
 pub mod RunLaws
+pub mod AnsweredLaws

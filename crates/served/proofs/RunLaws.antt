@@ -10,7 +10,7 @@ use Rattle.text.specs.Frames.{parse_of}
 use Rattle.text.specs.Output.{Put, pasted}
 use Rattle.text.proofs.LineLaws.{lines_at, lines_none, length_line}
 use Rattle.text.proofs.PasteLaws.{put_put, put_length}
-use Rattle.bounds.specs.declared.refusal.Reply.{Reply}
+use Rattle.bounds.specs.Refusal.{Reply}
 use Rattle.served.specs.Served.{served_for, reply_line, Standing}
 use Rattle.served.specs.Replies.{replies_to, Room}
 use Rattle.served.specs.declared.held.Held.{Held}

@@ -1,2 +1,3 @@
 pub mod Served
 pub mod Replies
+pub mod Answered

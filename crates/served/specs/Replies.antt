@@ -1,6 +1,5 @@
 -- The output lines of lines, from what is held.
-use Rattle.std.specs.Prelude.{ℕ, ◌+◌, ◌*◌, ◌≤◌, true, List, [], ◌∷◌, ◌++◌, length}
-use Rattle.schedule.specs.declared.record.Record.{Record}
+use Rattle.std.specs.Prelude.{ℕ, ◌+◌, ◌*◌, ◌≤◌, List, [], ◌∷◌, ◌++◌, length}
 use Rattle.text.specs.Frames.{parse_of}
 use Rattle.served.specs.Served.{served_for, reply_line}
 use Rattle.served.specs.declared.held.Held.{Held}
@@ -9,10 +8,6 @@ use Rattle.served.specs.declared.held.Held.{Held}
 unfoldable pub replies_to : Held → List (List ℕ) → List ℕ
 replies_to h [] = []
 replies_to h (l ∷ ls) = reply_line (served_for h (parse_of l)).reply ++ replies_to (served_for h (parse_of l)).held ls
-
--- A channel that was made.
-abbrev pub made_as : Record → Held
-made_as r = record { channel = r; made = true }
 
 -- Room for the replies to a text's lines from a place on, behind what the lines before it got: three bytes a byte suffice.
 -- A last line without 0a leaves the place one past the text.

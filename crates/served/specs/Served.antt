@@ -1,65 +1,73 @@
 -- The answer to one frame, and its output line.
-use Rattle.std.specs.Prelude.{ℕ, ◌≡◌, Bool, true, false, List, eqb}
-use Rattle.waker.specs.Choice.{when◌then◌else◌}
+use Rattle.std.specs.Prelude.{ℕ, Option, Some, None, Ok, Err, List, eqb, if◌then◌else◌}
+use Rattle.std.specs.Option.{ForSome}
 use Rattle.channel.specs.Answer.{kind_of, value_of}
-use Rattle.bounds.specs.Refusal.{number_of}
-use Rattle.schedule.specs.Making.{zero_record, made_array, made_zero}
+use Rattle.bounds.specs.Refusal.{number_of, Reply}
+use Rattle.bounds.specs.declared.refusal.Refusal.{Refusal}
+use Rattle.bounds.specs.declared.refusal.Refusal.TheVariants.{Malformed, NoChannel}
+use Rattle.schedule.specs.Record.{refused_with}
+use Rattle.schedule.specs.Making.{made_array, made_zero}
 use Rattle.schedule.specs.Form.{InForm}
 use Rattle.schedule.specs.Calls.{begun, stepped, failed, advanced, taken}
+use Rattle.schedule.specs.declared.record.Record.{Record}
 use Rattle.schedule.specs.declared.record.Replied.{Replied}
-use Rattle.bounds.specs.declared.refusal.Refusal.{Refusal}
-use Rattle.bounds.specs.declared.refusal.Refusal.TheVariants as refusal
-use Rattle.bounds.specs.declared.refusal.Reply.{Reply}
-use Rattle.bounds.specs.declared.refusal.Reply.TheVariants.{Done, Took, Refused}
 use Rattle.text.specs.Output.{code_line, took_line}
 use Rattle.text.specs.declared.frame.Frame.{Frame}
-use Rattle.text.specs.declared.frame.Frame.TheVariants.{Header, Begin, Step, Advance, Take, Fail, Malformed}
+use Rattle.text.specs.declared.frame.Frame.TheVariants.{Header, Begin, Step, Advance, Take, Fail}
 use Rattle.served.specs.declared.held.Held.{Held}
 use Rattle.served.specs.declared.held.Served.{Served}
 
--- Before a channel was made.
+-- Before a channel was made, and once it was.
 abbrev pub nothing_made : Held
-nothing_made = record { channel = zero_record; made = false }
+nothing_made = record { channel = None }
+
+abbrev pub made_as : Record → Held
+made_as r = record { channel = Some r }
 
 abbrev pub refused_by : Held → Refusal → Served
-refused_by h n = record { held = h; reply = Refused n }
+refused_by h n = record { held = h; reply = Err n }
 
-abbrev pub accepted_as : Reply → Bool
-accepted_as Done = true
-accepted_as (Took a) = true
-accepted_as (Refused n) = false
-
--- Capacity 00 makes a rendezvous.
+-- Capacity 0 makes a rendezvous.
 unfoldable pub making_of : ℕ → ℕ → Replied
-making_of c n = when eqb c 0 then made_zero n else made_array c n
+making_of c n = if eqb c 0 then made_zero n else made_array c n
 
 -- A header that gets 2 or 3 makes no channel.
+abbrev pub made_by : Reply → Record → Option Record
+made_by (Ok a) r = Some r
+made_by (Err n) r = None
+
 abbrev pub headed_by : Replied → Served
-headed_by y = record { held = record { channel = y.next; made = accepted_as y.reply }; reply = y.reply }
+headed_by y = record { held = record { channel = made_by y.reply y.next }; reply = y.reply }
 
 abbrev pub kept_by : Replied → Served
-kept_by y = record { held = record { channel = y.next; made = true }; reply = y.reply }
+kept_by y = record { held = made_as y.next; reply = y.reply }
 
--- 12: a frame other than a header before a channel was made.
-abbrev pub once_made : Held → Replied → Served
-once_made h y = when h.made then kept_by y else refused_by h refusal.NoChannel
+-- 11: a header after a channel was made.
+abbrev pub header_on : Option Record → Replied → Served
+header_on None y = headed_by y
+header_on (Some r) y = kept_by (refused_with r Malformed)
 
--- 11: a malformed line, or a header after a channel was made; then 12, then the call's own refusals.
-unfoldable pub served_for : Held → Frame → Served
-served_for h (Header c n) = when h.made then refused_by h refusal.Malformed else headed_by (making_of c n)
-served_for h (Begin t c m d) = once_made h (begun h.channel t c m d)
-served_for h (Step t) = once_made h (stepped h.channel t)
-served_for h (Advance n) = once_made h (advanced h.channel n)
-served_for h (Take t) = once_made h (taken h.channel t)
-served_for h (Fail t) = once_made h (failed h.channel t)
-served_for h Malformed = refused_by h refusal.Malformed
+-- 12: any other frame before a channel was made.
+abbrev pub call_on : Option Record → (Record → Replied) → Served
+call_on None f = refused_by nothing_made NoChannel
+call_on (Some r) f = kept_by (f r)
+
+-- 11: a malformed line; then 11 or 12, then the call's own refusals.
+unfoldable pub served_for : Held → Option Frame → Served
+served_for h (Some (Header c n)) = header_on h.channel (making_of c n)
+served_for h (Some (Begin t c m d)) = call_on h.channel (λ r. begun r t c m d)
+served_for h (Some (Step t)) = call_on h.channel (λ r. stepped r t)
+served_for h (Some (Advance n)) = call_on h.channel (λ r. advanced r n)
+served_for h (Some (Take t)) = call_on h.channel (λ r. taken r t)
+served_for h (Some (Fail t)) = call_on h.channel (λ r. failed r t)
+served_for h None = refused_by h Malformed
 
 -- Two digits, 00 or the refusal; an accepted take adds kind and value.
 abbrev pub reply_line : Reply → List ℕ
-reply_line Done = code_line 0
-reply_line (Took a) = took_line (kind_of a) (value_of a)
-reply_line (Refused n) = code_line (number_of n)
+reply_line (Ok None) = code_line 0
+reply_line (Ok (Some a)) = took_line (kind_of a) (value_of a)
+reply_line (Err n) = code_line (number_of n)
 
 -- What the inner path relies on: a channel that was made is in form.
 abbrev pub Standing : Held → Type 0
-Standing h = h.made ≡ true → InForm h.channel
+Standing h = ForSome h.channel InForm

@@ -1,5 +1,5 @@
 //! The schedule text: its lines, the frames that they spell, and the lines of the output.
-#![tactic(auto, unfolding(waker::specs::Choice::choice))]
+#![tactic(auto)]
 
 pub mod frame;
 pub mod hex;

@@ -1,25 +1,23 @@
 //! The lines of a lent text.
-ghost use Rattle.std.specs.Prelude.{◌≡◌, ◌≤◌, length, drop};
+ghost use Rattle.std.specs.Prelude.{◌≡◌, ◌≤◌, ◌==◌, length, drop, position};
 ghost use Rattle.text.specs.Lines.{line_of};
 
-/// The bytes of `text` before its first 0a, or all of them.
-fn first(text: &[u8]) -> &[u8]
-    ensures { result.now ≡ line_of text.now }
+/// Where the first 0a stands.
+fn first_end(text: &[u8]) -> Option<usize>
+    ensures { result ≡ position (λ b. b == 0x0a) text.now }
 {
-    let mut n = 0;
-    while n < text.len() {
-        if text[n] == b'\n' {
-            return &text[..n];
-        }
-        n += 1;
-    }
-    text
+    text.iter().position(|&b| b == b'\n')
 }
 
+// Stays at a position: the replay goes over the lent text once, and asks at each place what stands there.
 /// The line that begins at `at`: a part of the lent text itself.
 pub fn line(text: &[u8], at: usize) -> &[u8]
     requires { at ≤ length text.now }
     ensures { result.now ≡ line_of (drop at text.now) }
 {
-    first(&text[at..])
+    let rest = &text[at..];
+    match first_end(rest) {
+        Some(end) => &rest[..end],
+        None => rest,
+    }
 }

@@ -1,11 +1,12 @@
--- `read_text` ends: each turn puts at least a byte.
-use Prim.Native.Nat.{◌-◌, ◌≤◌}
-use mathlib.Core.Path.{◌≡◌}
-use lib.ListN.{length}
+-- `read_text` ends, for each turn reads at least a byte; what stands in the buffer is what was read so far.
+use Rattle.std.proofs.Common.{◌≡◌, ◌-◌, ◌≤◌, length, take}
+use Rattle.std.specs.Io.KnownBytes.{Consumes}
 use Rattle.input.proofs.read_text.Given as goal
 
 abbrev pub invariant-loop-n : goal.invariant-loop-n
-invariant-loop-n g l = (length l.buf ≡ length l.initial.buf) × (l.n ≤ length l.initial.buf) × (4096 ≡ length l.chunk)
+invariant-loop-n g l =
+    (length l.buf ≡ length l.initial.buf) × (l.n ≤ length l.buf)
+    × Consumes (g.R.Read.remaining l.initial.reader) (g.R.Read.remaining l.reader) (take l.n l.buf)
 
 abbrev pub decreases-loop-n : goal.decreases-loop-n
-decreases-loop-n g l = length l.buf - l.n
+decreases-loop-n g l = length l.initial.buf - l.n

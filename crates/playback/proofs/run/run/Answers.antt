@@ -1,7 +1,10 @@
 -- `run` writes the output of the whole text. The loop's invariant, Running with nothing made: what is written up to end, and
 -- then the replies to the lines from at on, are the whole output; end is at most 3 * at. A channel's replay answers the rest.
 -- The measure is what is left of the text and one byte more, since at passes a last line without 0a by one.
+use mathlib.Core.Path.{◌≡◌, ap, ◌∙◌}
 use borrow.Author.Rules.{rules}
+use Rattle.std.specs.Prelude.{Ok}
+use Rattle.playback.specs.declared.run.Heading.TheVariants.{Array, Zero}
 use Rattle.served.proofs.ServedLaws.{grown_nothing}
 use Rattle.served.proofs.RunLaws.{running_none, running_turn, running_all}
 use Rattle.playback.proofs.HeadingLaws.{served_refused, served_array, served_zero, allows_array, allows_zero, room_first, running_handed}
@@ -13,40 +16,44 @@ loop-at-init c = running_none _ _ _ _ _ grown_nothing (room_first _ _ c.requires
 pub loop-at-preserved : goal.loop-at-preserved
 loop-at-preserved c =
     running_turn _ _ _ _ _ c.loop-at.invariant c.loop-at-test.true _ c.line-line.ensures _ _
-    (served_refused _ c.parse-frame.ensures c.heading_of-heading.ensures _ c.in-Refused.is) _ _
+    (served_refused _ c.parse-frame.ensures c.heading_of.ensures _ c.in-Err.is) _ _
     c.put-end.ensures
 
 pub replay-requires : goal.replay-requires
 replay-requires c =
+    let e : c.heading_of.result ≡ Ok (Array c.in-Ok-Array.capacity c.in-Ok-Array.count) = c.in-Ok-Array.is ∙ ap Ok c.in-Ok-Array.field-0-is in
     let turned =
     running_turn _ _ _ _ _ c.loop-at.invariant c.loop-at-test.true _ c.line-line.ensures _ _
-    (served_array _ c.parse-frame.ensures c.heading_of-heading.ensures _ _ c.in-Array.is) _ _
+    (served_array _ c.parse-frame.ensures c.heading_of.ensures _ _ e) _ _
     c.put-start.ensures in
-    (turned.room, allows_array _ c.parse-frame.ensures c.heading_of-heading.ensures _ _ c.in-Array.is)
+    record { room = turned.room; allowed = allows_array _ c.parse-frame.ensures c.heading_of.ensures _ _ e }
 
-pub returns-in-Array : goal.returns-in-Array
-returns-in-Array c =
+pub returns-in-Ok-Array : goal.returns-in-Ok-Array
+returns-in-Ok-Array c =
+    let e : c.heading_of.result ≡ Ok (Array c.in-Ok-Array.capacity c.in-Ok-Array.count) = c.in-Ok-Array.is ∙ ap Ok c.in-Ok-Array.field-0-is in
     running_handed _ _ _ _ _
     (running_turn _ _ _ _ _ c.loop-at.invariant c.loop-at-test.true _ c.line-line.ensures _ _
-    (served_array _ c.parse-frame.ensures c.heading_of-heading.ensures _ _ c.in-Array.is) _ _
+    (served_array _ c.parse-frame.ensures c.heading_of.ensures _ _ e) _ _
     c.put-start.ensures)
     _ _ (search rules) c.replay.ensures
 
-pub replay-requires-in-Zero : goal.replay-requires-in-Zero
-replay-requires-in-Zero c =
+pub replay-requires-in-Ok-Zero : goal.replay-requires-in-Ok-Zero
+replay-requires-in-Ok-Zero c =
+    let e : c.heading_of.result ≡ Ok (Zero c.in-Ok-Zero.count) = c.in-Ok-Zero.is ∙ ap Ok c.in-Ok-Zero.field-0-is in
     let turned =
     running_turn _ _ _ _ _ c.loop-at.invariant c.loop-at-test.true _ c.line-line.ensures _ _
-    (served_zero _ c.parse-frame.ensures c.heading_of-heading.ensures _ c.in-Zero.is) _ _
-    c.put-start-in-Zero.ensures in
-    (turned.room, allows_zero _ c.parse-frame.ensures c.heading_of-heading.ensures _ c.in-Zero.is)
+    (served_zero _ c.parse-frame.ensures c.heading_of.ensures _ e) _ _
+    c.put-start-in-Ok-Zero.ensures in
+    record { room = turned.room; allowed = allows_zero _ c.parse-frame.ensures c.heading_of.ensures _ e }
 
-pub returns-in-Zero : goal.returns-in-Zero
-returns-in-Zero c =
+pub returns-in-Ok-Zero : goal.returns-in-Ok-Zero
+returns-in-Ok-Zero c =
+    let e : c.heading_of.result ≡ Ok (Zero c.in-Ok-Zero.count) = c.in-Ok-Zero.is ∙ ap Ok c.in-Ok-Zero.field-0-is in
     running_handed _ _ _ _ _
     (running_turn _ _ _ _ _ c.loop-at.invariant c.loop-at-test.true _ c.line-line.ensures _ _
-    (served_zero _ c.parse-frame.ensures c.heading_of-heading.ensures _ c.in-Zero.is) _ _
-    c.put-start-in-Zero.ensures)
-    _ _ (search rules) c.replay-in-Zero.ensures
+    (served_zero _ c.parse-frame.ensures c.heading_of.ensures _ e) _ _
+    c.put-start-in-Ok-Zero.ensures)
+    _ _ (search rules) c.replay-in-Ok-Zero.ensures
 
 pub returns : goal.returns
 returns c = running_all _ _ _ _ _ c.loop-at.invariant c.loop-at-test.false

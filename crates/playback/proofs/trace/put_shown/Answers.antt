@@ -4,4 +4,4 @@ use Rattle.playback.proofs.trace.put_shown.Goals as goal
 
 pub returns : goal.returns
 returns c =
-    shown_whole c.requires c.args.served c.put-end.ensures c.put_record.ensures
+    shown_whole c.requires c.args.served c.put-end.ensures (rw c.record_of.ensures at c.put_record.ensures)

@@ -1,12 +1,7 @@
--- `put_record` writes the whole line. The loop's invariant, Writing: the first i fields stand from at to end.
--- The measure is how many fields are left.
-use Prim.Native.Nat.{◌-◌}
-use Rattle.saved.specs.Fields.{field_count}
-use Rattle.saved.proofs.LineLaws.{Writing}
+-- The first i fields stand from `at` to `end`.
+use Rattle.text.specs.Output.{Put}
+use Rattle.saved.specs.Line.{fields_text}
 use Rattle.saved.proofs.line.put_record.Given as goal
 
 abbrev pub invariant-loop-i : goal.invariant-loop-i
-invariant-loop-i l = Writing l.at l.given l.initial.out l.end l.i l.out
-
-abbrev pub decreases-loop-i : goal.decreases-loop-i
-decreases-loop-i l = field_count - l.i
+invariant-loop-i l = Put l.at (fields_text l.given l.i) l.end l.initial.out l.out

@@ -1,2 +1,0 @@
-pub mod LeftLaws
-pub mod LoopLaws

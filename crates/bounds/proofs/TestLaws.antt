@@ -23,13 +23,6 @@ pub either_way : {P : Type 0} (b x y : Bool) → cond b x y ≡ true → (x ≡ 
 either_way true x y h p q = p h
 either_way false x y h p q = q h
 
--- Tests made one after the other: the first that fails ends them.
-pub and_stops : {a x : Bool} (b : Bool) → x ≡ a → x ≡ false → false ≡ (a && b)
-and_stops b e f = rw (← e, f)
-
-pub and_goes : {a b x y : Bool} → x ≡ a → x ≡ true → y ≡ b → y ≡ (a && b)
-and_goes e t h = rw (← e, t) h
-
 -- Every number from a on, n of them, passes.
 all_from : (a n : ℕ) (p : ℕ → Bool) → ((i : ℕ) → a ≤ i → i < a + n → p i ≡ true) → list_all p (range_with_len a n) ≡ true
 all_from a zero p h = refl

@@ -21,7 +21,8 @@ use Rattle.schedule.specs.declared.record.Record.{Record}
 use Rattle.grown.proofs.Lists.{all_one}
 use Rattle.grown.proofs.Makes.{Made}
 use Rattle.grown.proofs.ArrayKept.{KeptArray}
-use Rattle.grown.proofs.ArrayGrown.{stamps_length, fresh_stamps, kept_fresh}
+use Rattle.array.proofs.ArrayLaws.{stamps_length}
+use Rattle.grown.proofs.ArrayGrown.{fresh_stamps, kept_fresh}
 use Rattle.claims.specs.Claims.{nothing}
 use Rattle.claims.proofs.Words.{word_low}
 use Rattle.claims.proofs.Tails.{plain}

@@ -15,6 +15,7 @@ pub fn read_text<R: Read>(reader: &mut R, buf: &mut [u8]) -> io::Result<usize>
     ensures end { IfOk result (λ n. n < length buf.new → IsAtEnd (R.remaining reader.new)) }
 {
     let mut n = 0;
+    // Stays a `while`: the reads end where the input does, and not at a count.
     while n < buf.len() {
         let count = reader.read(&mut buf[n..])?;
         if count == 0 {

@@ -1,3 +1,2 @@
 pub mod HeadingLaws
-pub mod RunLaws
 pub mod TraceLaws

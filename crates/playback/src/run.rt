@@ -63,13 +63,14 @@ fn run(text: &[u8], out: &mut [u8]) -> usize
         at = at + line.len() + 1;
         let frame = frame::parse(line);
         match heading_of(frame) {
-            Ok(Heading::Array { capacity, count }) => {
+            Ok(heading) => {
                 let start = reply::put(out, end, Ok(None));
-                return array_replay::replay(text, at, out, start, capacity, count);
-            }
-            Ok(Heading::Zero { count }) => {
-                let start = reply::put(out, end, Ok(None));
-                return zero_replay::replay(text, at, out, start, count);
+                return match heading {
+                    Heading::Array { capacity, count } => {
+                        array_replay::replay(text, at, out, start, capacity, count)
+                    }
+                    Heading::Zero { count } => zero_replay::replay(text, at, out, start, count),
+                };
             }
             Err(refusal) => {
                 end = reply::put(out, end, Err(refusal));

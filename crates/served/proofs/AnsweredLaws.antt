@@ -17,7 +17,6 @@ use Rattle.bounds.specs.Limits.{later}
 use Rattle.bounds.specs.declared.refusal.Refusal.{Refusal}
 use Rattle.bounds.specs.declared.refusal.Refusal.TheVariants.{NoSuchThread}
 use Rattle.places.specs.Begin.{started}
-use Rattle.places.specs.declared.place.Place.{Place}
 use Rattle.places.specs.declared.place.Place.TheVariants.{Idle}
 use Rattle.turns.specs.Turn.{goes_on, begun_with, failed_with, advanced_with, taken_with}
 use Rattle.turns.specs.declared.Running.{Running}
@@ -26,7 +25,7 @@ use Rattle.text.specs.Frames.{parse_of, step_thread}
 use Rattle.text.specs.declared.frame.Frame.{Frame}
 use Rattle.text.specs.declared.frame.Frame.TheVariants.{Header, Begin, Step, Advance, Take, Fail}
 use Rattle.text.proofs.StepLaws.{step_four}
-use Rattle.schedule.specs.Record.{thread_at, place_of, with_clock, counts_in, refused_with, turned_by, replied}
+use Rattle.schedule.specs.Record.{thread_at, place_of, counts_in, refused_with, turned_by, replied}
 use Rattle.schedule.specs.Form.{InForm}
 use Rattle.schedule.specs.Calls.{formed, threaded, begun, begun_in_form, stepped, stepped_by, stepped_in_form, failed, failed_in_form, advanced, advanced_in_form, advanced_to, taken, taken_in_form}
 use Rattle.schedule.specs.declared.record.Record.{Record}
@@ -35,7 +34,6 @@ use Rattle.schedule.specs.declared.record.ThreadRecord.{ThreadRecord}
 use Rattle.schedule.proofs.InFormLaws.{count_low}
 use Rattle.served.specs.Served.{made_as, kept_by, served_for}
 use Rattle.served.specs.Answered.{bounded_by, named_by, answered_for}
-use Rattle.served.specs.declared.held.Served.{Served}
 
 -- The thread that a frame names is in the table.
 bounded_below : (t : Thread) → bounded_by t < threads

@@ -87,9 +87,3 @@ put_four h p q r s =
 -- The buffer keeps its length; what stands before the end is what was there and what was written; past it nothing changed.
 pub put_length : {l m x : List ℕ} {at r : ℕ} → at + length x ≤ length l → Put at x r l m → length m ≡ length l
 put_length {l} {m} {x} {at} {r} h p = ap length p.whole ∙ length_pasted l x at h
-
-pub put_take : {l m x : List ℕ} {at r : ℕ} → at + length x ≤ length l → Put at x r l m → take r m ≡ take at l ++ x
-put_take {l} {m} {x} {at} {r} h p = rw (p.past, p.whole) (take_pasted l x at h)
-
-pub put_drop : {l m x : List ℕ} {at r : ℕ} → at + length x ≤ length l → Put at x r l m → drop r m ≡ drop r l
-put_drop {l} {m} {x} {at} {r} h p = rw (p.past, p.whole) (drop_pasted l x at h)

@@ -13,10 +13,11 @@ use text::{frame, lines};
 
 /// Shows each line's answer and record.
 fn show<W: Write>(writer: &mut W, text: &[u8]) -> io::Result<()> {
+    // A rule of the project: no heap, so a buffer of a fixed size.
     let mut out = [0u8; SHOWN];
     let mut held = Held::nothing();
-    // Tried and unproved: a `for` over `split_inclusive`, in a function that is generic over its writer.
     let mut at = 0;
+    // Tried and unproved: a `for` over `split_inclusive`, in a function that is generic over its writer.
     while at < text.len() {
         let line = lines::line(text, at);
         at += line.len() + 1;
@@ -28,6 +29,7 @@ fn show<W: Write>(writer: &mut W, text: &[u8]) -> io::Result<()> {
     Ok(())
 }
 
+// Reader and writer stay two: a program's two ends, each of its own kind.
 /// Traces the input's text. A text that cannot be read to its end is not answered in part. Of an error only what failed is said, and not the system's message.
 fn trace<R: Read, W: Write>(reader: &mut R, writer: &mut W) -> Result<()> {
     // A rule of the project: no heap, so buffers of a fixed size. One byte more than a text may have shows a text that is too long.
@@ -36,6 +38,7 @@ fn trace<R: Read, W: Write>(reader: &mut R, writer: &mut W) -> Result<()> {
         .ok()
         .context("standard input could not be read")?;
     if TEXT_LIMIT < n {
+        // The same: the line of a refusal.
         let mut line = [0u8; 3];
         let end = reply::put(&mut line, 0, Err(Refusal::TooLong));
         // What the program does may not change: of this one line it says nothing where it cannot be written.
@@ -47,6 +50,7 @@ fn trace<R: Read, W: Write>(reader: &mut R, writer: &mut W) -> Result<()> {
         .context("standard output could not be written")
 }
 
+// Stays beside replay's: two programs, each of which says its own name.
 /// A failure is said on standard error.
 fn main(rt: HostRuntime) {
     // What the program does may not change: its status is 0 then too, so this returns no `Err`.

@@ -21,39 +21,39 @@ loop-at-preserved c =
 
 pub replay-requires : goal.replay-requires
 replay-requires c =
-    let e : c.heading_of.result ≡ Ok (Array c.in-Ok-Array.capacity c.in-Ok-Array.count) = c.in-Ok-Array.is ∙ ap Ok c.in-Ok-Array.field-0-is in
+    let e : c.heading_of.result ≡ Ok (Array c.in-Array.capacity c.in-Array.count) = c.in-Ok.is ∙ ap Ok c.in-Array.is in
     let turned =
     running_turn _ _ _ _ _ c.loop-at.invariant c.loop-at-test.true _ c.line-line.ensures _ _
     (served_array _ c.parse-frame.ensures c.heading_of.ensures _ _ e) _ _
     c.put-start.ensures in
     record { room = turned.room; allowed = allows_array _ c.parse-frame.ensures c.heading_of.ensures _ _ e }
 
-pub returns-in-Ok-Array : goal.returns-in-Ok-Array
-returns-in-Ok-Array c =
-    let e : c.heading_of.result ≡ Ok (Array c.in-Ok-Array.capacity c.in-Ok-Array.count) = c.in-Ok-Array.is ∙ ap Ok c.in-Ok-Array.field-0-is in
+pub returns-in-Array : goal.returns-in-Array
+returns-in-Array c =
+    let e : c.heading_of.result ≡ Ok (Array c.in-Array.capacity c.in-Array.count) = c.in-Ok.is ∙ ap Ok c.in-Array.is in
     running_handed _ _ _ _ _
     (running_turn _ _ _ _ _ c.loop-at.invariant c.loop-at-test.true _ c.line-line.ensures _ _
     (served_array _ c.parse-frame.ensures c.heading_of.ensures _ _ e) _ _
     c.put-start.ensures)
     _ _ (search rules) c.replay.ensures
 
-pub replay-requires-in-Ok-Zero : goal.replay-requires-in-Ok-Zero
-replay-requires-in-Ok-Zero c =
-    let e : c.heading_of.result ≡ Ok (Zero c.in-Ok-Zero.count) = c.in-Ok-Zero.is ∙ ap Ok c.in-Ok-Zero.field-0-is in
+pub replay-requires-in-Zero : goal.replay-requires-in-Zero
+replay-requires-in-Zero c =
+    let e : c.heading_of.result ≡ Ok (Zero c.in-Zero.count) = c.in-Ok.is ∙ ap Ok c.in-Zero.is in
     let turned =
     running_turn _ _ _ _ _ c.loop-at.invariant c.loop-at-test.true _ c.line-line.ensures _ _
     (served_zero _ c.parse-frame.ensures c.heading_of.ensures _ e) _ _
-    c.put-start-in-Ok-Zero.ensures in
+    c.put-start.ensures in
     record { room = turned.room; allowed = allows_zero _ c.parse-frame.ensures c.heading_of.ensures _ e }
 
-pub returns-in-Ok-Zero : goal.returns-in-Ok-Zero
-returns-in-Ok-Zero c =
-    let e : c.heading_of.result ≡ Ok (Zero c.in-Ok-Zero.count) = c.in-Ok-Zero.is ∙ ap Ok c.in-Ok-Zero.field-0-is in
+pub returns-in-Zero : goal.returns-in-Zero
+returns-in-Zero c =
+    let e : c.heading_of.result ≡ Ok (Zero c.in-Zero.count) = c.in-Ok.is ∙ ap Ok c.in-Zero.is in
     running_handed _ _ _ _ _
     (running_turn _ _ _ _ _ c.loop-at.invariant c.loop-at-test.true _ c.line-line.ensures _ _
     (served_zero _ c.parse-frame.ensures c.heading_of.ensures _ e) _ _
-    c.put-start-in-Ok-Zero.ensures)
-    _ _ (search rules) c.replay-in-Ok-Zero.ensures
+    c.put-start.ensures)
+    _ _ (search rules) c.replay-in-Zero.ensures
 
 pub returns : goal.returns
 returns c = running_all _ _ _ _ _ c.loop-at.invariant c.loop-at-test.false

@@ -1,5 +1,5 @@
 //! What the trace shows of a frame: its output line, and the record after it.
-ghost use Rattle.std.specs.Prelude.{◌≡◌, ◌≤◌, length, Option};
+ghost use Rattle.std.specs.Prelude.{◌≡◌, ◌≤◌, length};
 ghost use Rattle.text.specs.Output.{Put};
 ghost use Rattle.playback.specs.Trace.{record_of, shown_room, shown_for};
 
@@ -12,12 +12,14 @@ use served::reply;
 /// The longest that the trace shows of a frame, in bytes.
 pub const SHOWN: usize = 13 + LINE;
 
-/// The record that stands for what is held: before a channel was made, the one that a refused making returns.
-#[tactic(auto, unfolding(schedule::specs::Making::made_zero))]
-fn record_of(channel: Option<Record>) -> Record
+// Stays a match: either arm holds the record, and neither is a failure.
+/// The record that is held: a channel's, or the one that stands for none.
+fn record_of(channel: Result<Record, Record>) -> Record
     ensures { result ≡ record_of channel }
 {
-    channel.unwrap_or_else(|| Record::make_zero(0).next)
+    match channel {
+        Ok(given) | Err(given) => given,
+    }
 }
 
 // Stays a lent buffer with room for what is shown: no heap, a rule of the project.

@@ -33,7 +33,7 @@ grown_formed h = rw h.grown (grown_in_form h.start h.fresh h.history)
 
 -- What is held, once made, has grown so.
 pub record GrownHeld (h : Held) : Type 0 where
-  pub of : (r : Record) → h.channel ≡ Some r → HasGrown r
+  pub of : (r : Record) → h.channel ≡ Ok r → HasGrown r
 
 pub grown_nothing : GrownHeld nothing_made
 grown_nothing = record { of = λ r e. cc }
@@ -63,12 +63,12 @@ grown_more {r = r} g a =
 grown_on : (h : Held) → GrownHeld h → (a : Act) → GrownHeld (call_on h.channel (λ r. act_on r a)).held
 grown_on h g a = go h.channel refl
   where
-    go : (c : Option Record) → h.channel ≡ c → GrownHeld (call_on c (λ r. act_on r a)).held
-    go None e = grown_nothing
-    go (Some r) e = grown_made (grown_more (g.of r e) a)
+    go : (c : Result Record Record) → h.channel ≡ c → GrownHeld (call_on c (λ r. act_on r a)).held
+    go (Ok r) e = grown_made (grown_more (g.of r e) a)
+    go (Err r) e = record { of = λ s f. cc }
 
 -- An accepted making replies no answer, and starts anew.
-accepted_made : (v : Result ⊤ Refusal) (r x : Record) → (headed_by (made v r)).held.channel ≡ Some x → made v r ≡ accepted_as x
+accepted_made : (v : Result ⊤ Refusal) (r x : Record) → (headed_by (made v r)).held.channel ≡ Ok x → made v r ≡ accepted_as x
 accepted_made (Ok u) r x e = let same : r ≡ x = cc in rw same refl
 accepted_made (Err n) r x e = cc
 
@@ -80,7 +80,7 @@ making_grown : (c n : ℕ) → GrownHeld (headed_by (making_of c n)).held
 unfolding making_of made_array made_zero
 making_grown c n = record { of = go (eqb c 0) }
   where
-    go : (b : Bool) (r : Record) → (headed_by (cond b (made_zero n) (made_array c n))).held.channel ≡ Some r → HasGrown r
+    go : (b : Bool) (r : Record) → (headed_by (cond b (made_zero n) (made_array c n))).held.channel ≡ Ok r → HasGrown r
     go true r e = grown_fresh (fresh_as_zero n (accepted_made (making Zero 0 n) (fresh_zero_record n) r e))
     go false r e = grown_fresh (fresh_as_array c n (accepted_made (making Array c n) (fresh_array_record c n) r e))
 
@@ -88,9 +88,9 @@ grown_header : (h : Held) → GrownHeld h → (c n : ℕ) → GrownHeld (served_
 unfolding served_for
 grown_header h g c n = go h.channel refl
   where
-    go : (o : Option Record) → h.channel ≡ o → GrownHeld (served_for (record { channel = o }) (Some (Header c n))).held
-    go None e = making_grown c n
-    go (Some r) e = grown_made (g.of r e)
+    go : (o : Result Record Record) → h.channel ≡ o → GrownHeld (served_for (record { channel = o }) (Some (Header c n))).held
+    go (Ok r) e = grown_made (g.of r e)
+    go (Err r) e = making_grown c n
 
 pub grown_served : (h : Held) (f : Option Frame) → GrownHeld h → GrownHeld (served_for h f).held
 unfolding served_for
@@ -158,14 +158,14 @@ pub line_length_lem : (h : Held) (l : List ℕ) → length (reply_line (served_f
 unfolding served_for
 line_length_lem h l = go (parse_of l) refl
   where
-    short : (c : Option Record) (a : Act) → room_for a ≤ 3 * (length l + 1) →
+    short : (c : Result Record Record) (a : Act) → room_for a ≤ 3 * (length l + 1) →
         long_served (call_on c (λ r. act_on r a)) ≤ 3 * (length l + 1)
-    short None a k = omega arith
-    short (Some r) a k = omega (arith, k, call_long r a)
+    short (Ok r) a k = omega (arith, k, call_long r a)
+    short (Err r) a k = omega arith
 
-    header : (c : Option Record) (k n : ℕ) → long_served (served_for (record { channel = c }) (Some (Header k n))) ≤ 3 * (length l + 1)
-    header None k n = omega (arith, making_long k n)
-    header (Some r) k n = omega arith
+    header : (c : Result Record Record) (k n : ℕ) → long_served (served_for (record { channel = c }) (Some (Header k n))) ≤ 3 * (length l + 1)
+    header (Ok r) k n = omega arith
+    header (Err r) k n = omega (arith, making_long k n)
 
     go : (f : Option Frame) → parse_of l ≡ f → long_served (served_for h f) ≤ 3 * (length l + 1)
     go (Some (Header c n)) e = header h.channel c n

@@ -1,5 +1,5 @@
 //! The channel that a text has made so far, and the answer to one frame.
-ghost use Rattle.std.specs.Prelude.{◌≡◌, Some};
+ghost use Rattle.std.specs.Prelude.{◌≡◌, Some, Err};
 ghost use Rattle.served.specs.Served.{made_as, nothing_made, refused_by, headed_by, kept_by, making_of, served_for, Standing};
 
 use bounds::refusal::{Refusal, Reply};
@@ -7,10 +7,10 @@ use schedule::calls::Formed;
 use schedule::record::{Record, Replied};
 use text::frame::Frame;
 
-/// The record, once a header has made its channel.
+/// The record, once a header has made its channel; before that, a record that stands for none.
 #[derive(Clone, Copy, Debug, PartialEq, Eq)]
 pub struct Held {
-    pub channel: Option<Record>,
+    pub channel: Result<Record, Record>,
 }
 
 /// The answer to a frame, and what is held then.
@@ -35,7 +35,10 @@ fn making(capacity: u32, threads: u32) -> Replied
 fn headed(replied: Replied) -> Served
     ensures { result ≡ headed_by replied }
 {
-    let channel = replied.reply.is_ok().then_some(replied.next);
+    let channel = match replied.reply {
+        Ok(_) => Ok(replied.next),
+        Err(_) => Err(replied.next),
+    };
     Served {
         held: Held { channel },
         reply: replied.reply,
@@ -48,7 +51,7 @@ fn kept(replied: Replied) -> Served
 {
     Served {
         held: Held {
-            channel: Some(replied.next),
+            channel: Ok(replied.next),
         },
         reply: replied.reply,
     }
@@ -75,24 +78,30 @@ fn serve_made(formed: Formed, frame: Frame) -> Served
     })
 }
 
-// Stays a match, and no `From`: what is answered is no other form of the frame.
+// Stays a match: of the frames one is heard.
 /// Before a channel was made, only a header is heard.
 #[tactic(auto, unfolding(crate::specs::Served::served_for))]
-fn serve_unmade(frame: Frame) -> Served
-    ensures { result ≡ served_for nothing_made (Some frame) }
+fn serve_unmade(stand_in: Record, frame: Frame) -> Served
+    ensures { result ≡ served_for (record { channel = Err stand_in }) (Some frame) }
 {
+    let held = Held {
+        channel: Err(stand_in),
+    };
     match frame {
         Frame::Header { capacity, threads } => headed(making(capacity, threads)),
-        _ => Held::nothing().refused(Refusal::NoChannel),
+        _ => held.refused(Refusal::NoChannel),
     }
 }
 
 impl Held {
-    /// Before a channel was made.
+    /// Before a channel was made: the record that a refused making returns stands for none.
+    #[tactic(auto, unfolding(schedule::specs::Making::made_zero))]
     pub fn nothing() -> Held
         ensures { result ≡ nothing_made }
     {
-        Held { channel: None }
+        Held {
+            channel: Err(Record::make_zero(0).next),
+        }
     }
 
     /// A refusal leaves what is held as it was.
@@ -115,8 +124,8 @@ impl Held {
             return self.refused(Refusal::Malformed);
         };
         match self.channel {
-            Some(channel) => serve_made(Formed { given: channel }, frame),
-            None => serve_unmade(frame),
+            Ok(channel) => serve_made(Formed { given: channel }, frame),
+            Err(stand_in) => serve_unmade(stand_in, frame),
         }
     }
 }

@@ -5,8 +5,8 @@ ghost use Rattle.bounds.specs.Limits.{step_limit, one_more};
 ghost use Rattle.turns.specs.Turn.{counts_of, stepped_with, stands, begun_with, failed_with, advanced_with, taken_with};
 
 use bounds::limits;
-use bounds::refusal::Refusal;
-use channel::answer::{Answer, Tick};
+use bounds::refusal::{Refusal, Reply};
+use channel::answer::Tick;
 use places::place::Place;
 
 /// The clock, and the steps made so far.
@@ -16,12 +16,12 @@ pub struct Counts {
     pub steps: u32,
 }
 
-/// What an accepted call leaves: where its thread stands, the counts, and the answer that a take hands over.
+/// What an accepted call leaves: where its thread stands, the counts, and the reply, which of a take has the answer.
 #[derive(Clone, Copy, Debug, PartialEq, Eq)]
 pub struct Turned {
     pub place: Place,
     pub counts: Counts,
-    pub answer: Option<Answer>,
+    pub reply: Reply,
 }
 
 impl Counts {
@@ -42,7 +42,7 @@ impl Counts {
         Turned {
             place,
             counts: self,
-            answer: None,
+            reply: Ok(None),
         }
     }
 
@@ -95,7 +95,7 @@ impl Counts {
         Ok(Turned {
             place,
             counts: self,
-            answer: Some(answer),
+            reply: Ok(Some(answer)),
         })
     }
 }

@@ -12,7 +12,7 @@ use Rattle.array.specs.declared.Cells.{Cells}
 use Rattle.array.specs.declared.outcome.ArrayEffect.{ArrayEffect}
 use Rattle.array.specs.declared.outcome.ArrayEffect.TheVariants.{ClaimSend, ClaimReceive, StoreMessage, TakeMessage, StoreStamp, MarkTail}
 
-abbrev cells_of : Position → Position → Position → ℕ → Cells
+abbrev pub cells_of : Position → Position → Position → ℕ → Cells
 cells_of h t s m = record { head = h; tail = t; stamp = s; message = m }
 
 -- The slot that an effect writes; 0 where it writes none.

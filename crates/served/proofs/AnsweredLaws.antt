@@ -58,12 +58,12 @@ unfolding bounded_by
 bounded_there t h = rw (lt-ltb t.0 threads h)
 
 -- A frame whose step's thread is known is that step.
-step_of : (f : Option Frame) (t : Thread) → step_thread f ≡ Some t → f ≡ Some (Step t)
+pub step_of : (f : Option Frame) (t : Thread) → step_thread f ≡ Some t → f ≡ Some (Step t)
 step_of (Some (Step u)) t h = let same : u ≡ t = cc in rw same
 step_of f t h = cc
 
 -- A step of a thread that is there, on a record in form.
-step_served : (r : Record) (t : Thread) → InForm r → t.0 < r.count →
+pub step_served : (r : Record) (t : Thread) → InForm r → t.0 < r.count →
     served_for (made_as r) (Some (Step t)) ≡ kept_by (stepped_by r t (goes_on (place_of r t.0) r.steps))
 unfolding served_for stepped stepped_in_form
 step_served r t i h = rw (i, lt-leb r.count t.0 h)
@@ -116,7 +116,7 @@ abbrev pub IsElsewhere : ℕ → Option Frame → Type 0
 IsElsewhere n f = (t : Thread) → step_thread f ≡ Some t → n ≤ t.0
 
 -- Any other frame, on a record in form.
-left_served : (r : Record) (f : Option Frame) → InForm r → r.count ≤ threads → IsElsewhere r.count f →
+pub left_served : (r : Record) (f : Option Frame) → InForm r → r.count ≤ threads → IsElsewhere r.count f →
     served_for (made_as r) f ≡ kept_by (answered_on r f)
 unfolding served_for answered_for begun begun_in_form stepped stepped_in_form failed failed_in_form advanced advanced_in_form taken taken_in_form
 left_served r (Some (Header c n)) i few past = refl
